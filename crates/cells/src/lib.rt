@@ -1,0 +1,351 @@
+// The readers of cells. They go through a text twice: first to judge it, with fill false, when nothing is written; then to fill the tables.
+ghost use mathlib.Core.Path.{_≡_};
+ghost use mathlib.Core.Bool.{Bool, true, false};
+ghost use Prim.Native.Nat.{ℕ, _+_, _*_, _-_, _≤_, _<_};
+ghost use lib.ListN.{length, take};
+ghost use Rattle.classes.specs.Classes.{classes};
+ghost use Rattle.classes.specs.Choice.{pick};
+ghost use Rattle.rules.specs.Contracts.{Listable, item};
+ghost use Rattle.tables.specs.Layout.{entryRow};
+ghost use Rattle.tables.specs.Pastes.{put};
+ghost use Rattle.rules.specs.Bodies.{Either, Turned, OpenTurned, shutBy, itemPlace};
+ghost use Rattle.cells.specs.Cells.{BodyRead, InstanceRead, PathHere, PathBehind, HeadRead};
+ghost use Rattle.tokens.specs.Stream.{placed};
+use tokens::Token;
+use tokens::token_from;
+use words::key_of;
+use names::is_path;
+use header::take_opened;
+use header::take_next;
+use header::expect_key;
+use header::read_text;
+use entries::expect;
+use entries::wrong_at;
+use entries::read_delay;
+use entries::read_check;
+use grammar::Mark;
+use grammar::ReadName;
+use grammar::Status;
+use grammar::ReadEntry;
+use grammar::Within;
+use grammar::Turn;
+use grammar::Keyword;
+use grammar::ReadBody;
+use tables::put_entry;
+
+// An instance's path: 0 the top level, 1 from .. to .., 2 '*'.
+pub enum Instance {
+    Path { sort: u8, from: usize, to: usize, end: usize },
+    Refused { number: u8, place: usize },
+}
+
+// A cell's type and path, and the place behind them.
+pub enum CellHead {
+    Head { typefrom: usize, typeto: usize, sort: u8, pathfrom: usize, pathto: usize, end: usize },
+    Refused { number: u8, place: usize },
+}
+
+// One of two keywords, the first or the one that follows it in number, right behind an opening bracket.
+fn read_keyword(text: &[u8], table: &[u8; 256], from: usize, first: u8) -> Keyword
+    requires { ⌜ (now table ≡ classes) × (from ≤ length (now text)) × (first < 255) ⌝ }
+    ensures { λ r. ⌜ Either (now (text .entry)) from first r ⌝ }
+{
+    let t = token_from(text, table, from);
+    match t {
+        Token::Stop { number, place } => Keyword::Refused { number: number, place: place },
+        Token::Got { kind, start, end, long } => {
+            let word = &text[start..end];
+            if kind == 7 {
+                let k = key_of(word);
+                if k == first {
+                    if long {
+                        return Keyword::Refused { number: 8, place: start };
+                    }
+                    return Keyword::Found { second: false, end: end };
+                }
+                if k == first + 1 {
+                    if long {
+                        return Keyword::Refused { number: 8, place: start };
+                    }
+                    return Keyword::Found { second: true, end: end };
+                }
+                let wrong = wrong_at(word, kind, true);
+                return Keyword::Refused { number: wrong, place: start };
+            }
+            let wrong = wrong_at(word, kind, true);
+            Keyword::Refused { number: wrong, place: start }
+        }
+    }
+}
+
+// A closing bracket from start to end, in a place where what has to stand there stands already (some) or not.
+fn shut(within: Within, some: bool, start: usize, end: usize) -> Turn
+    ensures { λ r. ⌜ r ≡ shutBy within some start end ⌝ }
+{
+    match within {
+        Within::Cell => Turn::Done(end),
+        Within::Delay => {
+            if some {
+                return Turn::On { within: Within::Cell, some: true, from: end };
+            }
+            Turn::Refused { number: 4, place: start }
+        }
+        Within::Absolute => {
+            if some {
+                return Turn::On { within: Within::Delay, some: true, from: end };
+            }
+            Turn::Refused { number: 4, place: start }
+        }
+        Within::Increment => {
+            if some {
+                return Turn::On { within: Within::Delay, some: true, from: end };
+            }
+            Turn::Refused { number: 4, place: start }
+        }
+        Within::Check => {
+            if some {
+                return Turn::On { within: Within::Cell, some: true, from: end };
+            }
+            Turn::Refused { number: 4, place: start }
+        }
+    }
+}
+
+// Behind an opening bracket among a cell's sections: DELAY or TIMINGCHECK.
+fn open_section(text: &[u8], table: &[u8; 256], from: usize, slash: bool) -> Turn
+    requires { ⌜ (now table ≡ classes) × (from ≤ length (now text)) ⌝ }
+    ensures { λ r. ⌜ OpenTurned (now (text .entry)) from Within.Cell slash r ⌝ }
+{
+    let k = read_keyword(text, table, from, 56);
+    match k {
+        Keyword::Refused { number, place } => Turn::Refused { number: number, place: place },
+        Keyword::Found { second, end } => {
+            if second {
+                return Turn::On { within: Within::Check, some: false, from: end };
+            }
+            Turn::On { within: Within::Delay, some: false, from: end }
+        }
+    }
+}
+
+// Behind an opening bracket in a DELAY: ABSOLUTE or INCREMENT.
+fn open_group(text: &[u8], table: &[u8; 256], from: usize, slash: bool) -> Turn
+    requires { ⌜ (now table ≡ classes) × (from ≤ length (now text)) ⌝ }
+    ensures { λ r. ⌜ OpenTurned (now (text .entry)) from Within.Delay slash r ⌝ }
+{
+    let k = read_keyword(text, table, from, 58);
+    match k {
+        Keyword::Refused { number, place } => Turn::Refused { number: number, place: place },
+        Keyword::Found { second, end } => {
+            if second {
+                return Turn::On { within: Within::Increment, some: false, from: end };
+            }
+            Turn::On { within: Within::Absolute, some: false, from: end }
+        }
+    }
+}
+
+// Behind an opening bracket.
+fn open_turn(text: &[u8], table: &[u8; 256], from: usize, within: Within, slash: bool) -> Turn
+    requires { ⌜ (now table ≡ classes) × (from ≤ length (now text)) ⌝ }
+    ensures { λ r. ⌜ OpenTurned (now (text .entry)) from within slash r ⌝ }
+{
+    match within {
+        Within::Cell => open_section(text, table, from, slash),
+        Within::Delay => open_group(text, table, from, slash),
+        Within::Absolute => Turn::Entry(from),
+        Within::Increment => Turn::Entry(from),
+        Within::Check => Turn::Entry(from),
+    }
+}
+
+// One step through a cell's sections, up to the next entry.
+fn body_turn(text: &[u8], table: &[u8; 256], from: usize, within: Within, some: bool, slash: bool) -> Turn
+    requires { ⌜ (now table ≡ classes) × (from ≤ length (now text)) ⌝ }
+    ensures { λ r. ⌜ Turned (now (text .entry)) from within some slash r ⌝ }
+{
+    let t = token_from(text, table, from);
+    match t {
+        Token::Stop { number, place } => Turn::Refused { number: number, place: place },
+        Token::Got { kind, start, end, long: _ } => {
+            if kind == 3 {
+                return shut(within, some, start, end);
+            }
+            if kind == 2 {
+                return open_turn(text, table, end, within, slash);
+            }
+            Turn::Refused { number: 4, place: start }
+        }
+    }
+}
+
+// An entry behind its opening bracket.
+fn read_entry(text: &[u8], table: &[u8; 256], from: usize, within: Within, slash: bool, unit: u8, room: usize) -> ReadEntry
+    requires { ⌜ (now table ≡ classes) × (from ≤ length (now text)) ⌝ }
+    ensures { λ r. ⌜ Listable (now (text .entry)) from (itemPlace within slash) slash unit room (r .status) (r .entry) (take (r .count) (r .list)) × (r .count ≤ 6) ⌝ }
+{
+    match within {
+        Within::Absolute => read_delay(text, table, from, slash, unit, 65, room),
+        Within::Increment => read_delay(text, table, from, slash, unit, 73, room),
+        Within::Check => read_check(text, table, from, slash, unit, room),
+        Within::Cell => read_check(text, table, from, slash, unit, room),
+        Within::Delay => read_check(text, table, from, slash, unit, room),
+    }
+}
+
+// The record goes to its row, where the table is to be filled.
+fn note_entry(entries: &mut [u64], row: usize, fill: bool, e: ReadEntry)
+    requires { ⌜ (28 * row + 28 ≤ length (now entries)) × (e .count ≤ 6) ⌝ }
+    ensures { λ _. ⌜ now (entries .exit) ≡ pick fill (put (now (entries .entry)) (28 * row) (entryRow (item (e .entry) (take (e .count) (e .list))))) (now (entries .entry)) ⌝ }
+{
+    if fill {
+        put_entry(entries, row, e);
+    }
+}
+
+// A cell's sections, up to its closing bracket. Their entries go to the table from the row on, where it is to be filled; room is how many
+// entries there is room for.
+fn read_body(
+    text: &[u8],
+    table: &[u8; 256],
+    from: usize,
+    slash: bool,
+    unit: u8,
+    room: usize,
+    fill: bool,
+    row: usize,
+    entries: &mut [u64],
+) -> ReadBody
+    requires { ⌜ (now table ≡ classes) × (from ≤ length (now text)) × (28 * (row + room) ≤ length (now entries)) ⌝ }
+    ensures { λ r. ⌜ BodyRead (now (text .entry)) from slash unit room fill row (now (entries .entry)) (now (entries .exit)) r ⌝ }
+{
+    let mut within = Within::Cell;
+    let mut some = true;
+    let mut p = from;
+    let mut n: usize = 0;
+    loop {
+        let t = body_turn(text, table, p, within, some, slash);
+        match t {
+            Turn::Refused { number, place } => {
+                return ReadBody::Refused { number: number, place: place };
+            }
+            Turn::Done(end) => {
+                return ReadBody::Done { end: end, count: n };
+            }
+            Turn::On { within: w, some: f, from: q } => {
+                within = w;
+                some = f;
+                p = q;
+            }
+            Turn::Entry(q) => {
+                let e = read_entry(text, table, q, within, slash, unit, room - n);
+                let status = e.status;
+                match status {
+                    Status::Refused { number, place } => {
+                        return ReadBody::Refused { number: number, place: place };
+                    }
+                    Status::Done(end) => {
+                        note_entry(entries, row + n, fill, e);
+                        n += 1;
+                        some = true;
+                        p = end;
+                    }
+                }
+            }
+        }
+    }
+}
+
+// 0 where an instance's path stands here, else the refusal's number.
+fn path_here(text: &[u8], kind: u8, start: usize, end: usize, long: bool, slash: bool) -> u8
+    requires { ⌜ (start ≤ end) × (end ≤ length (now text)) ⌝ }
+    ensures { λ r. ⌜ PathHere (placed (now (text .entry)) kind start end long) slash r ⌝ }
+{
+    if kind == 7 {
+        if is_path(&text[start..end], slash) {
+            if long {
+                return 8;
+            }
+            return 0;
+        }
+        return 4;
+    }
+    4
+}
+
+// The rest of INSTANCE: a path, nothing or '*', and the closing bracket.
+fn read_instance(text: &[u8], table: &[u8; 256], from: usize, slash: bool) -> Instance
+    requires { ⌜ (now table ≡ classes) × (from ≤ length (now text)) ⌝ }
+    ensures { λ r. ⌜ InstanceRead (now (text .entry)) from slash r ⌝ }
+{
+    let t = token_from(text, table, from);
+    match t {
+        Token::Stop { number, place } => Instance::Refused { number: number, place: place },
+        Token::Got { kind, start, end, long } => {
+            if kind == 3 {
+                return Instance::Path { sort: 0, from: 0, to: 0, end: end };
+            }
+            if kind == 5 {
+                let m = expect(text, table, end, 3);
+                return match m {
+                    Mark::Refused { number, place } => Instance::Refused { number: number, place: place },
+                    Mark::At(e) => Instance::Path { sort: 2, from: 0, to: 0, end: e },
+                };
+            }
+            let n = path_here(text, kind, start, end, long, slash);
+            if n == 0 {
+                let m = expect(text, table, end, 3);
+                return match m {
+                    Mark::Refused { number, place } => Instance::Refused { number: number, place: place },
+                    Mark::At(e) => Instance::Path { sort: 1, from: start, to: end, end: e },
+                };
+            }
+            Instance::Refused { number: n, place: start }
+        }
+    }
+}
+
+// INSTANCE behind the type's text, and its path.
+fn cell_path(text: &[u8], table: &[u8; 256], from: usize, slash: bool) -> Instance
+    requires { ⌜ (now table ≡ classes) × (from ≤ length (now text)) ⌝ }
+    ensures { λ r. ⌜ PathBehind (now (text .entry)) from slash r ⌝ }
+{
+    let hand = take_next(text, table, from);
+    let m = expect_key(text, hand, 55);
+    match m {
+        Mark::Refused { number, place } => Instance::Refused { number: number, place: place },
+        Mark::At(behind) => read_instance(text, table, behind, slash),
+    }
+}
+
+// A cell's type and path, behind its keyword.
+fn cell_head(text: &[u8], table: &[u8; 256], from: usize, slash: bool) -> CellHead
+    requires { ⌜ (now table ≡ classes) × (from ≤ length (now text)) ⌝ }
+    ensures { λ r. ⌜ HeadRead (now (text .entry)) from slash r ⌝ }
+{
+    let hand = take_opened(text, table, from);
+    let m = expect_key(text, hand, 54);
+    match m {
+        Mark::Refused { number, place } => CellHead::Refused { number: number, place: place },
+        Mark::At(behind) => {
+            let t = read_text(text, table, behind);
+            match t {
+                ReadName::Refused { number, place } => CellHead::Refused { number: number, place: place },
+                ReadName::Name { from: open, to } => {
+                    let i = cell_path(text, table, to, slash);
+                    match i {
+                        Instance::Refused { number, place } => CellHead::Refused { number: number, place: place },
+                        Instance::Path { sort, from: pathfrom, to: pathto, end } => CellHead::Head {
+                            typefrom: open + 1,
+                            typeto: to - 1,
+                            sort: sort,
+                            pathfrom: pathfrom,
+                            pathto: pathto,
+                            end: end,
+                        },
+                    }
+                }
+            }
+        }
+    }
+}

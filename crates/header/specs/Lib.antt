@@ -1,0 +1,4 @@
+pub mod Steps
+pub mod Short
+pub mod Texts
+pub mod Header

@@ -1,0 +1,14 @@
+pub mod Walk
+pub mod Sides
+pub mod Stops
+pub mod Bytes
+pub mod Taken
+pub mod Phases
+pub mod Judged
+pub mod Behind
+pub mod Log
+pub mod Counts
+pub mod Exactly
+pub mod Holds
+pub mod Least
+pub mod Examples

@@ -1,0 +1,7 @@
+pub mod Shape
+pub mod Exactly
+pub mod Order
+pub mod Orders
+pub mod Name
+pub mod Laws
+pub mod Examples

@@ -1,0 +1,4 @@
+pub mod Contracts
+pub mod Rules
+pub mod Entries
+pub mod Bodies

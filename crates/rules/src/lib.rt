@@ -1,0 +1,1 @@
+// The rules by which the readers are proved: definitions and laws only.

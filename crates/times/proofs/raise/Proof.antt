@@ -1,0 +1,67 @@
+-- `times::raise` meets its contract: the invariant: what is left of the power, times the value so far, is the whole.
+-- Assumes nothing.
+use Prim.Native.Nat.{_≤_, _<_, _*_, _^_, _-_, min}
+use mathlib.Core.Path.{_≡_, ap, _∙_}
+use native.Mathlib.Omega.{arith}
+use native.Mathlib.Nat.{mul-le-mul-left, one-le-pow, mul-one}
+use lib.Dec.{lit<}
+use borrow.Author.Needs.{needs}
+use Rattle.times.specs.Steps.{stop, raise-step}
+use Rattle.times.proofs.raise.Statement.{statement}
+use Rattle.times.proofs.raise.Tie as tie
+
+abbrev Inv-loop : tie.InvT-loop
+Inv-loop value n v₀ left₀ v left = (v ≤ stop) × (0 < v) × (min (v * 10 ^ left) stop ≡ min (value * 10 ^ n) stop)
+
+abbrev μ-loop : tie.MeasureT-loop
+μ-loop value n v₀ left₀ v left = left
+
+returns : tie.Need-returns Inv-loop μ-loop
+returns c = (rw (c .if1 .taken) (omega arith), search needs)
+
+loop-holds : tie.Need-loop-holds Inv-loop μ-loop
+loop-holds c = search needs
+
+returns-2 : tie.Need-returns-2 Inv-loop μ-loop
+returns-2 c =
+    let l = c .before .before .loop in
+    (omega (arith, mul-le-mul-left (l .v) (one-le-pow (l .left) 10 (lit< tt)), l .inv .2), search needs)
+
+put-requires : tie.Need-put-requires Inv-loop μ-loop
+put-requires c κs = search needs
+
+sub-left : tie.Need-sub-left Inv-loop μ-loop
+sub-left c = search needs
+
+loop-less : tie.Need-loop-less Inv-loop μ-loop
+loop-less c = search needs
+
+loop-again : tie.Need-loop-again Inv-loop μ-loop
+loop-again c =
+    let l = c .before .before .before .loop in (
+      search needs,
+      search needs,
+      ap (λ k. min (k * 10 ^ (l .left - 1)) stop) (c .put .ensures .0) ∙ raise-step (l .v) (l .left) (search needs) ∙ l .inv .2,
+    )
+
+returns-3 : tie.Need-returns-3 Inv-loop μ-loop
+returns-3 c =
+    let l = c .before .loop in
+    let z : l .left ≡ 0 = omega arith in
+    let p : l .v * 10 ^ l .left ≡ l .v = ap (λ k. l .v * 10 ^ k) z ∙ mul-one (l .v) in
+    (omega (arith, p, l .inv .2), search needs)
+
+pub raise-spec : {M : Type 1} → statement M
+raise-spec =
+    tie.close
+    (tie.spec
+    Inv-loop
+    μ-loop
+    returns
+    loop-holds
+    returns-2
+    put-requires
+    sub-left
+    loop-less
+    loop-again
+    returns-3)

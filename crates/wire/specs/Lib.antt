@@ -1,0 +1,3 @@
+pub mod Wire
+pub mod Round
+pub mod Frame
