@@ -1,4 +1,5 @@
 -- `wire::put_eight` meets its contract. Invariant: k words of the row are pasted.
+-- Assumes nothing.
 use Prim.Native.Nat.{_≤_, _-_}
 use mathlib.Core.Path.{_≡_, refl}
 use native.Mathlib.Omega.{arith}

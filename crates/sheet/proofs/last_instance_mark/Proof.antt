@@ -1,0 +1,72 @@
+-- `sheet::last_instance_mark` meets its contract.
+-- Assumes nothing.
+use Rattle.sheet.specs.Search.{NotBeyond, not-beyond}
+use Rattle.names.specs.Name.{canon}
+use Rattle.names.specs.Order.{cmp}
+use Rattle.sheetform.specs.Form.{pathAt}
+use Rattle.sheet.specs.Search.{strideOf}
+use Rattle.sheetlaws.specs.Sheet.{inEnd}
+use denote.Ref.{now}
+use borrow.Author.Needs.{needs}
+use native.Mathlib.Omega.{arith}
+use mathlib.Core.Path.{refl, sym, _∙_}
+use Prim.Native.Nat.{_≤_, _<_, _-_}
+use Rattle.sheet.proofs.last_instance_mark.Statement.{statement}
+use Rattle.sheet.proofs.last_instance_mark.Tie as tie
+
+abbrev Inv-loop : tie.InvT-loop
+Inv-loop sheet count first marks path slash low₀ high₀ low high = (low < high) × (high ≤ 4096)
+    × NotBeyond (pathAt sheet) (inEnd sheet) cmp (canon slash path) count first (strideOf count) low
+
+abbrev μ-loop : tie.MeasureT-loop
+μ-loop sheet count first marks path slash low₀ high₀ low high = high - low
+
+loop-holds : tie.Need-loop-holds Inv-loop μ-loop
+loop-holds c = (search needs, search needs, λ z. absurd (z refl))
+
+add-loop : tie.Need-add-loop Inv-loop μ-loop
+add-loop c = search needs
+
+add-middle : tie.Need-add-middle Inv-loop μ-loop
+add-middle c = search needs
+
+instance-mark-after-requires : tie.Need-instance-mark-after-requires Inv-loop μ-loop
+instance-mark-after-requires c κs = ((c .before .before .before .before .pre), omega arith)
+
+loop-less : tie.Need-loop-less Inv-loop μ-loop
+loop-less c = search needs
+
+loop-again : tie.Need-loop-again Inv-loop μ-loop
+loop-again c = (omega arith, omega arith, c .before .before .before .loop .inv .2)
+
+loop-less-2 : tie.Need-loop-less-2 Inv-loop μ-loop
+loop-less-2 c = search needs
+
+loop-again-2 : tie.Need-loop-again-2 Inv-loop μ-loop
+loop-again-2 c =
+    let a = c .before .before .before .before .before .before .args in
+    let sheet = now (a .sheet) in (
+      omega arith,
+      omega arith,
+      not-beyond (pathAt sheet) (inEnd sheet) cmp (canon (a .slash) (now (a .path))) (a .count) (a .first)
+          (strideOf (a .count)) _ (sym (c .before .instance-mark-after .ensures) ∙ c .if1 .left),
+    )
+
+returns : tie.Need-returns Inv-loop μ-loop
+returns c = (omega arith, c .before .loop .inv .2)
+
+pub last-instance-mark-spec : {M : Type 1} → statement M
+last-instance-mark-spec =
+    tie.close
+    (tie.spec
+    Inv-loop
+    μ-loop
+    loop-holds
+    add-loop
+    add-middle
+    instance-mark-after-requires
+    loop-less
+    loop-again
+    loop-less-2
+    loop-again-2
+    returns)

@@ -1,0 +1,20 @@
+-- `sheetform::bad_of` meets its contract.
+-- Assumes nothing.
+use borrow.Author.Needs.{needs}
+use Rattle.sheetform.proofs.bad_of.Statement.{statement}
+use Rattle.sheetform.proofs.bad_of.Tie as tie
+
+enum-told : tie.Need-enum-told
+enum-told c = search needs
+
+enum-known-t : tie.Need-enum-known-t
+enum-known-t c = search needs
+
+returns : tie.Need-returns
+returns c = search needs
+
+returns-2 : tie.Need-returns-2
+returns-2 c = rw (c .before .t .given .1)
+
+pub bad-of-spec : {M : Type 1} → statement M
+bad-of-spec = tie.close (tie.spec enum-told enum-known-t returns returns-2)

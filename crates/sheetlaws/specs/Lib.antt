@@ -1,0 +1,10 @@
+pub mod Sheet
+pub mod Goes
+pub mod Sound
+pub mod Complete
+pub mod Instances
+pub mod Whole
+pub mod Values
+pub mod Set
+pub mod Rule
+pub mod Worked

@@ -1,0 +1,1 @@
+// Laws of the sheet's form, in specs/: no code.
