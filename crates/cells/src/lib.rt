@@ -205,7 +205,7 @@ fn note_entry(entries: &mut [u64], row: usize, fill: bool, e: ReadEntry)
 
 // A cell's sections, up to its closing bracket. Their entries go to the table from the row on, where it is to be filled; room is how many
 // entries there is room for.
-fn read_body(
+pub fn read_body(
     text: &[u8],
     table: &[u8; 256],
     from: usize,
@@ -319,7 +319,7 @@ fn cell_path(text: &[u8], table: &[u8; 256], from: usize, slash: bool) -> Instan
 }
 
 // A cell's type and path, behind its keyword.
-fn cell_head(text: &[u8], table: &[u8; 256], from: usize, slash: bool) -> CellHead
+pub fn cell_head(text: &[u8], table: &[u8; 256], from: usize, slash: bool) -> CellHead
     requires { ⌜ (now table ≡ classes) × (from ≤ length (now text)) ⌝ }
     ensures { λ r. ⌜ HeadRead (now (text .entry)) from slash r ⌝ }
 {

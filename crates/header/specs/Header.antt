@@ -1,41 +1,43 @@
 -- The rules by which the header's reader is proved: one for each way through a reader, over the tokens it met. They say nothing of code.
 -- Assumes nothing.
-use mathlib.Core.Path.{_≡_, refl, ap, _∙_, sym, subst}
+use mathlib.Core.Path.{_≡_, refl, ap, _∙_, sym}
 use mathlib.Core.Bool.{Bool, true, false}
 use mathlib.Core.List.{List, [], _∷_, _++_}
-use mathlib.Core.Option.{Option, none, some}
+use mathlib.Core.Option.{none, some}
 use Prim.Native.Nat.{ℕ, _+_, _-_, _≤_, _<_}
 use native.Mathlib.Omega.{arith}
-use lib.Dec.{eqb, leb, ltb}
-use lib.ListN.{length, drop}
-use borrow.Author.Tests.{eq-eqb, ne-eqb, le-leb, lt-leb, leb-true, leb-false, eqb-true, eqb-false}
+use lib.Dec.{eqb, leb}
+use lib.ListN.{length}
+use borrow.Author.Tests.{eq-eqb, ne-eqb, le-leb, lt-leb, leb-true, eqb-true, eqb-false}
 use Rattle.classes.specs.Choice.{pick, or, within}
 use Rattle.tokens.specs.declared.Token.the-variants.{Got, Stop}
 use Rattle.tokens.specs.Tokens.{tokenAt}
 use Rattle.tokens.specs.Stream.{Placed, placed, part, onwards}
-use Rattle.words.specs.Words.{Key, find, keyOf, scaleOf, dividerOf, unitOf}
+use Rattle.words.specs.Words.{find, keyOf, scaleOf, dividerOf, unitOf}
 use Rattle.words.specs.Words as w
 use Rattle.words.specs.Laws.{stands, held}
 use Rattle.words.specs.Scales.{find-most}
 use Rattle.times.specs.Shape.{isNumber}
-use Rattle.grammar.specs.Ll.{Sym, lit, non, Alt, choose}
-use Rattle.grammar.specs.Machine.{Res, fine, bad, _then_}
+use Rattle.grammar.specs.Ll.{lit, non, Alt, choose}
+use Rattle.grammar.specs.Machine.{fine, bad}
 use Rattle.grammar.specs.declared.Hand.{Hand}
 use Rattle.grammar.specs.declared.Hand.the-variants as hand
 use Rattle.grammar.specs.declared.Mark.{Mark}
 use Rattle.grammar.specs.declared.Mark.the-variants as mark
 use Rattle.grammar.specs.declared.ReadName.the-variants as rn
 use Rattle.grammar.specs.declared.Head.{Head}
-use Rattle.grammar.specs.Grammar.{Term, N, this, text, word, keys, dividers, scales, units, number, heading, skip, scaled, joined, unity, divide, _!_, _‼_, _⇒_, key, keyword, colon, closes, ⟨, ⟩, header, heads, divider, timescale, bare, bare1, bare2, bare3, alts, fits, file, next}
+use Rattle.grammar.specs.Grammar.{Term, N, this, word, keys, dividers, scales, units, number, heading, skip, _!_, _⇒_, keyword, colon, ⟨, ⟩}
+use Rattle.grammar.specs.Grammar.{header, heads, divider, timescale, bare, bare1, bare2, bare3, alts, fits, file, next}
 use Rattle.grammar.specs.Meaning.{Log, wrongly, tidy}
 use Rattle.grammar.specs.Reading.{At, reading, stepped, goes, halts}
 use Rattle.grammar.specs.Outcome.{Stack, state}
-use Rattle.rules.specs.Contracts.{Marked, ReadsOne, holds, InHand, HeaderRead}
+use Rattle.rules.specs.Contracts.{Marked, InHand, HeaderRead}
 use Rattle.rules.specs.Rules.{ahead}
 use Rattle.rules.specs.Rules as rules
 use Rattle.header.specs.Short.{short}
 use Rattle.header.specs.Texts.{put}
-use Rattle.header.specs.Steps.{onward, InText, Takes, KeyRead, Spans, TextRead, HeadingRead, NumberShape, Skips, UnitRead, ScaleRead, before, place, Stands, IsText, IsBare, Passes, PassesBare, DividerRead, PassesDivider, PassesScale, FileOpened}
+use Rattle.header.specs.Steps.{Takes, KeyRead, TextRead, HeadingRead, NumberShape, Skips, UnitRead, ScaleRead, before, place, Stands}
+use Rattle.header.specs.Steps.{IsText, IsBare, Passes, PassesBare, DividerRead, PassesDivider, PassesScale, FileOpened}
 
 -- ---- the token in hand
 
@@ -89,32 +91,37 @@ module _ (s : List ℕ) (p k b e : ℕ) (long : Bool) (v : ℕ) (i : InHand s (h
 
   pub key-read : 1 ≤ n → v ≡ n → KeyRead s (hand.At p k b e long v) n (mark.At e)
   key-read g x =
-      let (q, f, z) = is-key g x in
-      (λ ss slash unit cr ir l. goes s _ p 7 b e false (fine _) (i .0) (rw (q, z) at (i .1)) (rw (f, le-leb n n (omega arith))),
-        ahead s p k b e long (i .0) (i .1) .1)
+      let (q, f, z) = is-key g x in (
+        λ ss slash unit cr ir l. goes s _ p 7 b e false (fine _) (i .0) (rw (q, z) at (i .1)) (rw (f, le-leb n n (omega arith))),
+        ahead s p k b e long (i .0) (i .1) .1,
+      )
 
   pub key-wrong : (w : ℕ) → (v ≡ n → ⊥) → w ≡ wrongly true k (part b e s) → KeyRead s (hand.At p k b e long v) n (mark.Refused w b)
   key-wrong w x f = (λ ss slash unit cr ir l. goes s _ p k b e long (bad w b) (i .0) (i .1) (rw (no-key x, f)), tt)
 
   -- an entry that is not there is passed over; one that is there is read from behind its keyword
   module _ (rest : Bool → Stack) (a : Stands n rest) where
-    over : (d : Bool) → (v ≡ n → ⊥) → choose fits (alts (header (place n) d)) (placed s k b e long) ≡ choose fits (alts (header (place n + 1) d)) (placed s k b e long)
+    over : (d : Bool) → (v ≡ n → ⊥) →
+        choose fits (alts (header (place n) d)) (placed s k b e long) ≡ choose fits (alts (header (place n + 1) d)) (placed s k b e long)
     unfolding alts
     over d x = ap (λ (l : List (Alt Term N)). choose fits l (placed s k b e long)) (a d) ∙ rw (no-key x)
 
-    pub not-there : (v ≡ n → ⊥) → (d : Bool) (unit cr ir : ℕ) (ts : List ℕ) → reading s (before (place n) d unit cr ir ts) p ≡ reading s (before (place n + 1) d unit cr ir ts) p
+    pub not-there : (v ≡ n → ⊥) → (d : Bool) (unit cr ir : ℕ) (ts : List ℕ) →
+        reading s (before (place n) d unit cr ir ts) p ≡ reading s (before (place n + 1) d unit cr ir ts) p
     not-there x d unit cr ir ts =
         goes s _ p k b e long (stepped (before (place n + 1) d unit cr ir ts) (placed s k b e long)) (i .0) (i .1) (rw (over d x))
         ∙ sym (goes s _ p k b e long _ (i .0) (i .1) refl)
 
-    chosen : (d : Bool) → 1 ≤ n → v ≡ n → choose fits (alts (header (place n) d)) (placed s k b e long) ≡ pick (fits (keyword n) (placed s k b e long)) (some (keyword n ⇒ rest d)) none
+    chosen : (d : Bool) → 1 ≤ n → v ≡ n →
+        choose fits (alts (header (place n) d)) (placed s k b e long) ≡ pick (fits (keyword n) (placed s k b e long)) (some (keyword n ⇒ rest d)) none
     unfolding alts
     chosen d g x = ap (λ (l : List (Alt Term N)). choose fits l (placed s k b e long)) (a d) ∙ rw (a-key g x)
 
     pub there : 1 ≤ n → v ≡ n → (d : Bool) (unit cr ir : ℕ) (ts : List ℕ) →
         reading s (before (place n) d unit cr ir ts) p ≡ reading s (state (rest d ++ []) false d unit cr ir (tidy ts [] [])) e
     there g x d unit cr ir ts =
-        goes s _ p k b e long _ (i .0) (i .1) (rules.heads (header (place n) d) (keyword n ⇒ rest d) [] true d unit cr ir (tidy ts [] []) (placed s k b e long) (chosen d g x))
+        goes s _ p k b e long _ (i .0) (i .1)
+        (rules.heads (header (place n) d) (keyword n ⇒ rest d) [] true d unit cr ir (tidy ts [] []) (placed s k b e long) (chosen d g x))
         ∙ sym (goes s _ p k b e long _ (i .0) (i .1) refl) ∙ key-read g x .0 (rest d ++ []) d unit cr ir (tidy ts [] [])
 
 pub key-refused : (s : List ℕ) (n m q : ℕ) → KeyRead s (hand.Refused m q) n (mark.Refused m q)
@@ -134,9 +141,10 @@ module _ (s : List ℕ) (p k b e : ℕ) (long : Bool) (h : p ≤ length s) (tok 
 
   pub text-fine : k ≡ 6 → long ≡ false → TextRead s p (rn.Name b e)
   text-fine q f =
-      let g = ahead s p k b e long h tok in
-      (λ slash. (placed s 6 b e false, λ m ss unit cr ir l. goes s _ p 6 b e false (fine _) h (rw (q, f) at tok) refl, refl, refl, g .0, g .1),
-        onwards s p k b e long h tok .1)
+      let g = ahead s p k b e long h tok in (
+        λ slash. (placed s 6 b e false, λ m ss unit cr ir l. goes s _ p 6 b e false (fine _) h (rw (q, f) at tok) refl, refl, refl, g .0, g .1),
+        onwards s p k b e long h tok .1,
+      )
 
 module _ (s : List ℕ) (p h : ℕ) (ts : List ℕ) where
   pub heading-not : (n q : ℕ) → TextRead s p (rn.Refused n q) → HeadingRead s p h ts ts (hand.Refused n q)
@@ -147,26 +155,33 @@ module _ (s : List ℕ) (p h : ℕ) (ts : List ℕ) where
     heading-open n q u = (λ y ss slash unit cr ir. w .0 slash .1 (heading h) _ unit cr ir _ ∙ u .0 y ss slash unit cr ir _, tt)
 
     pub heading-done : (r : Hand) → Takes s e (⟩ ∷ ⟨ ∷ []) false r → HeadingRead s p h ts (put h (b + 1) (e - 1) ts) r
-    heading-done r u =
-        (λ y ss slash unit cr ir.
+    heading-done r u = (
+      λ y ss slash unit cr ir.
           let x = w .0 slash in
-          x .1 (heading h) _ unit cr ir _ ∙ rw (x .2, x .3) (u .0 y ss slash unit cr ir _), u .1)
+          x .1 (heading h) _ unit cr ir _ ∙ rw (x .2, x .3) (u .0 y ss slash unit cr ir _),
+      u .1,
+    )
 
 pub refused-passes : (s : List ℕ) (n m q : ℕ) (ts : List ℕ) → Passes s n (hand.Refused m q) ts (hand.Refused m q) ts
 refused-passes s n m q ts = (λ d unit cr ir. refl, tt)
 
 module _ (s : List ℕ) (p k b e : ℕ) (long : Bool) (v : ℕ) (i : InHand s (hand.At p k b e long v)) (n : ℕ) where
-  pub passes-over : (rest : Bool → Stack) → Stands n rest → (v ≡ n → ⊥) → (ts : List ℕ) → Passes s n (hand.At p k b e long v) ts (hand.At p k b e long v) ts
+  pub passes-over : (rest : Bool → Stack) → Stands n rest → (v ≡ n → ⊥) → (ts : List ℕ) →
+      Passes s n (hand.At p k b e long v) ts (hand.At p k b e long v) ts
   passes-over rest a x ts = (λ d unit cr ir. not-there s p k b e long v i n rest a x d unit cr ir ts, i)
 
-  pub passes-text : (h : ℕ) (ts ts′ : List ℕ) (r : Hand) → IsText n h → 1 ≤ n → v ≡ n → HeadingRead s e h ts ts′ r → Passes s n (hand.At p k b e long v) ts r ts′
+  pub passes-text : (h : ℕ) (ts ts′ : List ℕ) (r : Hand) → IsText n h → 1 ≤ n → v ≡ n → HeadingRead s e h ts ts′ r →
+      Passes s n (hand.At p k b e long v) ts r ts′
   passes-text h ts ts′ r a g x w = (λ d unit cr ir. there s p k b e long v i n _ a g x d unit cr ir ts ∙ w .0 _ [] d unit cr ir, w .1)
 
-  pub passes-bare-not : (m q : ℕ) → IsBare n → 1 ≤ n → v ≡ n → Skips s e bare (mark.Refused m q) → PassesBare s n (hand.At p k b e long v) (hand.Refused m q)
+  pub passes-bare-not : (m q : ℕ) → IsBare n → 1 ≤ n → v ≡ n → Skips s e bare (mark.Refused m q) →
+      PassesBare s n (hand.At p k b e long v) (hand.Refused m q)
   passes-bare-not m q a g x w = λ ts. (λ d unit cr ir. there s p k b e long v i n _ a g x d unit cr ir ts ∙ w .0 _ d unit cr ir _, tt)
 
-  pub passes-bare : (y : ℕ) (r : Hand) → IsBare n → 1 ≤ n → v ≡ n → Skips s e bare (mark.At y) → Takes s y (⟨ ∷ []) false r → PassesBare s n (hand.At p k b e long v) r
-  passes-bare y r a g x w u = λ ts. (λ d unit cr ir. there s p k b e long v i n _ a g x d unit cr ir ts ∙ w .0 _ d unit cr ir _ ∙ u .0 _ [] d unit cr ir _, u .1)
+  pub passes-bare : (y : ℕ) (r : Hand) → IsBare n → 1 ≤ n → v ≡ n → Skips s e bare (mark.At y) → Takes s y (⟨ ∷ []) false r →
+      PassesBare s n (hand.At p k b e long v) r
+  passes-bare y r a g x w u =
+      λ ts. (λ d unit cr ir. there s p k b e long v i n _ a g x d unit cr ir ts ∙ w .0 _ d unit cr ir _ ∙ u .0 _ [] d unit cr ir _, u .1)
 
 -- ---- VOLTAGE and TEMPERATURE: a bare number or triple
 
@@ -192,17 +207,19 @@ Numeric t y rest = choose fits (alts y) t ≡ pick (fits (number true ! skip) t)
 
 module _ (s : List ℕ) (p k b e : ℕ) (long : Bool) (h : p ≤ length s) (tok : tokenAt s p ≡ Got k b e long) where
   module _ (y : N) (rest : Stack) (a : Numeric (placed s k b e long) y rest) where
+    by-number : (m : ℕ) → NumberShape (placed s k b e long) m → (ss : Stack) (slash : Bool) (unit cr ir : ℕ) (l : Log) →
+        stepped (state (non y ∷ ss) false slash unit cr ir l) (placed s k b e long) ≡
+        pick (eqb m 0) (fine (state (rest ++ ss) false slash unit cr ir l)) (bad m b)
+    by-number m z ss slash unit cr ir l =
+        rules.heads y (number true ! skip ⇒ rest) ss false slash unit cr ir l (placed s k b e long) a ∙ z (rest ++ ss) slash unit cr ir l
+
     no-number : (m : ℕ) → (m ≡ 0 → ⊥) → NumberShape (placed s k b e long) m → Skips s p y (mark.Refused m b)
     no-number m x z =
-        (λ ss slash unit cr ir l.
-          goes s _ p k b e long (bad m b) h tok
-          (rules.heads y (number true ! skip ⇒ rest) ss false slash unit cr ir l (placed s k b e long) a ∙ z (rest ++ ss) slash unit cr ir l ∙ rw (ne-eqb m 0 x)), tt)
+        (λ ss slash unit cr ir l. goes s _ p k b e long (bad m b) h tok (by-number m z ss slash unit cr ir l ∙ rw (ne-eqb m 0 x)), tt)
 
     a-number : NumberShape (placed s k b e long) 0 → (ss : Stack) (slash : Bool) (unit cr ir : ℕ) (l : Log) →
         reading s (state (non y ∷ ss) false slash unit cr ir l) p ≡ reading s (state (rest ++ ss) false slash unit cr ir l) e
-    a-number z ss slash unit cr ir l =
-        goes s _ p k b e long (fine _) h tok
-        (rules.heads y (number true ! skip ⇒ rest) ss false slash unit cr ir l (placed s k b e long) a ∙ z (rest ++ ss) slash unit cr ir l)
+    a-number z ss slash unit cr ir l = goes s _ p k b e long (fine _) h tok (by-number 0 z ss slash unit cr ir l)
 
   -- behind two colons
   numeric-3 : (f : Bool) → (k ≡ 3 → ⊥) → Numeric (placed s k b e long) (bare3 f) (⟩ ∷ [])
@@ -239,16 +256,22 @@ module _ (s : List ℕ) (p k b e : ℕ) (long : Bool) (h : p ≤ length s) (tok 
   pub bare2-wrong : (f : Bool) (m : ℕ) → (k ≡ 4 → ⊥) → (m ≡ 0 → ⊥) → NumberShape (placed s k b e long) m → Skips s p (bare2 f) (mark.Refused m b)
   bare2-wrong f m n x z = no-number (bare2 f) (lit (colon skip) ∷ non (bare3 true) ∷ []) (numeric-2 f n) m x z
 
-  pub bare2-open : (f : Bool) (c q : ℕ) → (k ≡ 4 → ⊥) → NumberShape (placed s k b e long) 0 → Marked s e 4 (mark.Refused c q) → Skips s p (bare2 f) (mark.Refused c q)
-  bare2-open f c q n z m =
-      (λ ss slash unit cr ir l.
-        a-number (bare2 f) (lit (colon skip) ∷ non (bare3 true) ∷ []) (numeric-2 f n) z ss slash unit cr ir l ∙ m skip _ slash unit cr ir l, tt)
+  pub bare2-open : (f : Bool) (c q : ℕ) → (k ≡ 4 → ⊥) → NumberShape (placed s k b e long) 0 → Marked s e 4 (mark.Refused c q) →
+      Skips s p (bare2 f) (mark.Refused c q)
+  bare2-open f c q n z m = (
+    λ ss slash unit cr ir l.
+        a-number (bare2 f) (lit (colon skip) ∷ non (bare3 true) ∷ []) (numeric-2 f n) z ss slash unit cr ir l ∙ m skip _ slash unit cr ir l,
+    tt,
+  )
 
-  pub bare2-done : (f : Bool) (q : ℕ) (r : Mark) → (k ≡ 4 → ⊥) → NumberShape (placed s k b e long) 0 → Marked s e 4 (mark.At q) → Skips s q (bare3 true) r → Skips s p (bare2 f) r
-  bare2-done f q r n z m w =
-      (λ ss slash unit cr ir l.
+  pub bare2-done : (f : Bool) (q : ℕ) (r : Mark) → (k ≡ 4 → ⊥) → NumberShape (placed s k b e long) 0 → Marked s e 4 (mark.At q) →
+      Skips s q (bare3 true) r → Skips s p (bare2 f) r
+  bare2-done f q r n z m w = (
+    λ ss slash unit cr ir l.
         a-number (bare2 f) (lit (colon skip) ∷ non (bare3 true) ∷ []) (numeric-2 f n) z ss slash unit cr ir l ∙ m .1 skip _ slash unit cr ir l
-        ∙ w .0 ss slash unit cr ir l, w .1)
+        ∙ w .0 ss slash unit cr ir l,
+    w .1,
+  )
 
   -- behind its first number
   pub bare1-shut : k ≡ 3 → Skips s p bare1 (mark.At e)
@@ -291,7 +314,8 @@ module _ (s : List ℕ) (p k b e : ℕ) (long : Bool) (h : p ≤ length s) (tok 
   pub divider-not : (slash : Bool) → k ≡ 7 → dividerOf (part b e s) < 1 → DividerRead s p (hand.Refused 4 b) slash
   unfolding alts
   divider-not slash q f =
-      (λ unit cr ir ts. goes s _ p k b e long (bad 4 b) h tok (rw (eq-eqb k 7 q, lt-leb 1 (dividerOf (part b e s)) f, lt-leb 2 (dividerOf (part b e s)) (omega arith))), tt)
+      let x = dividerOf (part b e s) in
+      (λ unit cr ir ts. goes s _ p k b e long (bad 4 b) h tok (rw (eq-eqb k 7 q, lt-leb 1 x f, lt-leb 2 x (omega arith))), tt)
 
   divider-1 : (r : Hand) → k ≡ 7 → dividerOf (part b e s) ≡ 1 → Takes s e (⟩ ∷ ⟨ ∷ []) false r → DividerRead s p r false
   unfolding alts
@@ -324,8 +348,11 @@ module _ (s : List ℕ) (p k b e : ℕ) (long : Bool) (v : ℕ) (i : InHand s (h
   divider-over x = (λ unit cr ir ts. not-there s p k b e long v i 48 (λ d. non divider ∷ []) (λ d. refl) x false unit cr ir ts, i)
 
   pub divider-there : (r : Hand) (slash : Bool) → v ≡ 48 → DividerRead s e r slash → PassesDivider s (hand.At p k b e long v) r slash
-  divider-there r slash x w =
-      (λ unit cr ir ts. there s p k b e long v i 48 (λ d. non divider ∷ []) (λ d. refl) (omega arith) x false unit cr ir ts ∙ w .0 unit cr ir ts, w .1)
+  divider-there r slash x w = (
+    λ unit cr ir ts.
+        there s p k b e long v i 48 (λ d. non divider ∷ []) (λ d. refl) (omega arith) x false unit cr ir ts ∙ w .0 unit cr ir ts,
+    w .1,
+  )
 
   -- ---- TIMESCALE, as a step
   abbrev scaleTail : Bool → Stack
@@ -334,13 +361,18 @@ module _ (s : List ℕ) (p k b e : ℕ) (long : Bool) (v : ℕ) (i : InHand s (h
   pub scale-over : (v ≡ 52 → ⊥) → PassesScale s (hand.At p k b e long v) (hand.At p k b e long v) 6
   scale-over x = (λ d cr ir ts. not-there s p k b e long v i 52 scaleTail (λ d. refl) x d 6 cr ir ts, i)
 
-  pub scale-there-not : (m q unit : ℕ) → v ≡ 52 → ScaleRead s e (mark.Refused m q) unit → PassesScale s (hand.At p k b e long v) (hand.Refused m q) unit
+  pub scale-there-not : (m q unit : ℕ) → v ≡ 52 → ScaleRead s e (mark.Refused m q) unit →
+      PassesScale s (hand.At p k b e long v) (hand.Refused m q) unit
   scale-there-not m q unit x w =
       (λ d cr ir ts. there s p k b e long v i 52 scaleTail (λ d. refl) (omega arith) x d 6 cr ir ts ∙ w .0 _ d 6 cr ir _, tt)
 
-  pub scale-there : (y unit : ℕ) (r : Hand) → v ≡ 52 → ScaleRead s e (mark.At y) unit → Takes s y (⟩ ∷ ⟨ ∷ []) false r → PassesScale s (hand.At p k b e long v) r unit
-  scale-there y unit r x w u =
-      (λ d cr ir ts. there s p k b e long v i 52 scaleTail (λ d. refl) (omega arith) x d 6 cr ir ts ∙ w .0 _ d 6 cr ir _ ∙ u .0 _ [] d unit cr ir _, u .1)
+  pub scale-there : (y unit : ℕ) (r : Hand) → v ≡ 52 → ScaleRead s e (mark.At y) unit → Takes s y (⟩ ∷ ⟨ ∷ []) false r →
+      PassesScale s (hand.At p k b e long v) r unit
+  scale-there y unit r x w u = (
+    λ d cr ir ts.
+        there s p k b e long v i 52 scaleTail (λ d. refl) (omega arith) x d 6 cr ir ts ∙ w .0 _ d 6 cr ir _ ∙ u .0 _ [] d unit cr ir _,
+    u .1,
+  )
 
 pub scale-refused : (s : List ℕ) (m q unit : ℕ) → PassesScale s (hand.Refused m q) (hand.Refused m q) unit
 scale-refused s m q unit = (λ d cr ir ts. refl, tt)
@@ -358,8 +390,11 @@ unit-most v = find-most w.units v 16 refl
 pub scale-gap : (v : List ℕ) → 1 ≤ scaleOf v → scaleOf v < 11 → scaleOf v ≤ 3
 unfolding scaleOf
 scale-gap v h g =
-    by (leb (find w.scales v) 3) refl (held (λ k. or (leb (k .number) 3) (leb 11 (k .number))) w.scales (record { word = v; number = find w.scales v }) refl (stands w.scales v (find w.scales v) h refl))
+    by (leb n 3) refl (held (λ k. or (leb (k .number) 3) (leb 11 (k .number))) w.scales (record { word = v; number = n }) refl (stands w.scales v n h refl))
   where
+    n : ℕ
+    n = find w.scales v
+
     by : (t : Bool) → leb (find w.scales v) 3 ≡ t → or t (leb 11 (find w.scales v)) ≡ true → find w.scales v ≤ 3
     by true q x = leb-true (find w.scales v) 3 q
     by false q x = let z = leb-true 11 (find w.scales v) x in absurd (omega arith)
@@ -380,9 +415,11 @@ module _ (s : List ℕ) (p k b e : ℕ) (long : Bool) (h : p ≤ length s) (tok 
   pub unit-done : (power v : ℕ) → k ≡ 7 → v ≡ unitOf (part b e s) → 1 ≤ v → UnitRead s p power (mark.At e) (power + (v - 1))
   unit-done power v q f g =
       let z = short s p k b e long units h tok q (omega arith) in
-      (λ ss slash cr ir l.
-        goes s _ p 7 b e false (fine _) h (rw (q, z) at tok)
-        (rw (f, le-leb 1 (unitOf (part b e s)) (omega arith), le-leb (unitOf (part b e s)) 16 (unit-most (part b e s)))), ahead s p k b e long h tok .1)
+      let x = unitOf (part b e s) in (
+        λ ss slash cr ir l.
+            goes s _ p 7 b e false (fine _) h (rw (q, z) at tok) (rw (f, le-leb 1 x (omega arith), le-leb x 16 (unit-most (part b e s)))),
+        ahead s p k b e long h tok .1,
+      )
 
   pub scale-kind : (unit : ℕ) → (k ≡ 7 → ⊥) → ScaleRead s p (mark.Refused 4 b) unit
   unfolding alts
@@ -391,25 +428,31 @@ module _ (s : List ℕ) (p k b e : ℕ) (long : Bool) (h : p ≤ length s) (tok 
   pub scale-not : (unit : ℕ) → k ≡ 7 → scaleOf (part b e s) < 1 → ScaleRead s p (mark.Refused 4 b) unit
   unfolding alts
   scale-not unit q f =
-      (λ ss slash u cr ir l. goes s _ p k b e long (bad 4 b) h tok (rw (eq-eqb k 7 q, lt-leb 1 (scaleOf (part b e s)) f, lt-leb 11 (scaleOf (part b e s)) (omega arith))), tt)
+      let x = scaleOf (part b e s) in
+      (λ ss slash u cr ir l. goes s _ p k b e long (bad 4 b) h tok (rw (eq-eqb k 7 q, lt-leb 1 x f, lt-leb 11 x (omega arith))), tt)
 
   pub scale-joined : (v : ℕ) → k ≡ 7 → v ≡ scaleOf (part b e s) → 11 ≤ v → ScaleRead s p (mark.At e) (v - 11)
   unfolding alts
   scale-joined v q f g =
       let x = scaleOf (part b e s) in
-      let z = short s p k b e long scales h tok q (omega arith) in
-      (λ ss slash u cr ir l.
-        goes s _ p 7 b e false (fine _) h (rw (q, z) at tok)
-        (rw (f, le-leb 1 x (omega arith), lt-leb x 3 (omega arith), le-leb 11 x (omega arith), le-leb x 28 (scale-most (part b e s)))), ahead s p k b e long h tok .1)
+      let z = short s p k b e long scales h tok q (omega arith) in (
+        λ ss slash u cr ir l.
+            goes s _ p 7 b e false (fine _) h (rw (q, z) at tok)
+            (rw (f, le-leb 1 x (omega arith), lt-leb x 3 (omega arith), le-leb 11 x (omega arith), le-leb x 28 (scale-most (part b e s)))),
+        ahead s p k b e long h tok .1,
+      )
 
-  pub scale-split : (v : ℕ) (r : Mark) (unit : ℕ) → k ≡ 7 → v ≡ scaleOf (part b e s) → 1 ≤ v → v < 11 → UnitRead s e (v - 1) r unit → ScaleRead s p r unit
+  pub scale-split : (v : ℕ) (r : Mark) (unit : ℕ) → k ≡ 7 → v ≡ scaleOf (part b e s) → 1 ≤ v → v < 11 → UnitRead s e (v - 1) r unit →
+      ScaleRead s p r unit
   unfolding alts
   scale-split v r unit q f g m u =
       let x = scaleOf (part b e s) in
       let z = short s p k b e long scales h tok q (omega arith) in
-      (λ ss slash y cr ir l.
-        goes s _ p 7 b e false (fine _) h (rw (q, z) at tok) (rw (f, le-leb 1 x (omega arith), le-leb x 3 (scale-gap (part b e s) (omega arith) (omega arith))))
-        ∙ u .0 ss slash cr ir l, u .1)
+      let three : x ≤ 3 = scale-gap (part b e s) (omega arith) (omega arith) in (
+        λ ss slash y cr ir l.
+            goes s _ p 7 b e false (fine _) h (rw (q, z) at tok) (rw (f, le-leb 1 x (omega arith), le-leb x 3 three)) ∙ u .0 ss slash cr ir l,
+        u .1,
+      )
 
 -- ---- the whole header
 
@@ -425,16 +468,22 @@ module _ (s ts : List ℕ) (o : Hand) (a : Takes s 0 (⟨ ∷ []) false o) where
 
     pub file-done : (y : ℕ) (ts′ : List ℕ) (r : Hand) → KeyRead s i 42 (mark.At y) → HeadingRead s y 0 ts ts′ r → FileOpened s ts ts′ r
     unfolding file
-    file-done y ts′ r d u =
-        (λ cr ir. a .0 _ _ false 6 cr ir _ ∙ b .0 _ false 6 cr ir _ ∙ c .0 _ _ false 6 cr ir _ ∙ d .0 _ false 6 cr ir _ ∙ u .0 _ [] false 6 cr ir, u .1)
+    file-done y ts′ r d u = (
+      λ cr ir.
+          a .0 _ _ false 6 cr ir _ ∙ b .0 _ false 6 cr ir _ ∙ c .0 _ _ false 6 cr ir _ ∙ d .0 _ false 6 cr ir _ ∙ u .0 _ [] false 6 cr ir,
+      u .1,
+    )
 
 -- DESIGN, DATE, VENDOR, PROGRAM, VERSION, DIVIDER, VOLTAGE, PROCESS, TEMPERATURE, TIMESCALE
 pub header-read : (s t0 t1 t2 t3 t4 t5 t6 t7 : List ℕ) (h0 h1 h2 h3 h4 h5 h6 h7 h8 h9 : Hand) (r : Head) →
-    FileOpened s t0 t1 h0 → Passes s 43 h0 t1 h1 t2 → Passes s 44 h1 t2 h2 t3 → Passes s 45 h2 t3 h3 t4 → Passes s 46 h3 t4 h4 t5 → Passes s 47 h4 t5 h5 t6 →
-    PassesDivider s h5 h6 (r .slash) → PassesBare s 49 h6 h7 → Passes s 50 h7 t6 h8 t7 → PassesBare s 51 h8 h9 → PassesScale s h9 (r .hand) (r .unit) →
+    FileOpened s t0 t1 h0 →
+    Passes s 43 h0 t1 h1 t2 → Passes s 44 h1 t2 h2 t3 → Passes s 45 h2 t3 h3 t4 → Passes s 46 h3 t4 h4 t5 → Passes s 47 h4 t5 h5 t6 →
+    PassesDivider s h5 h6 (r .slash) → PassesBare s 49 h6 h7 → Passes s 50 h7 t6 h8 t7 → PassesBare s 51 h8 h9 →
+    PassesScale s h9 (r .hand) (r .unit) →
     HeaderRead s t0 t7 r
-header-read s t0 t1 t2 t3 t4 t5 t6 t7 h0 h1 h2 h3 h4 h5 h6 h7 h8 h9 r a b c d e f g h i j k =
-    (λ cr ir.
+header-read s t0 t1 t2 t3 t4 t5 t6 t7 h0 h1 h2 h3 h4 h5 h6 h7 h8 h9 r a b c d e f g h i j k = (
+  λ cr ir.
       a .0 cr ir ∙ b .0 false 6 cr ir ∙ c .0 false 6 cr ir ∙ d .0 false 6 cr ir ∙ e .0 false 6 cr ir ∙ f .0 false 6 cr ir
       ∙ g .0 6 cr ir t6 ∙ h t6 .0 (r .slash) 6 cr ir ∙ i .0 (r .slash) 6 cr ir ∙ j t7 .0 (r .slash) 6 cr ir ∙ k .0 (r .slash) cr ir t7,
-      k .1)
+  k .1,
+)

@@ -3,10 +3,10 @@
 use mathlib.Core.Path.{_≡_, refl, sym, _∙_, subst}
 use mathlib.Core.Bool.{Bool, true, false}
 use mathlib.Core.List.{List}
-use Prim.Native.Nat.{ℕ, _+_, _-_, _≤_, _<_}
+use Prim.Native.Nat.{ℕ, _+_, _-_, _≤_}
 use native.Mathlib.Omega.{arith}
 use lib.Dec.{eqb, leb, ltb}
-use lib.ListN.{length, take, drop, length-drop}
+use lib.ListN.{length, drop, length-drop}
 use lib.Seq.{length-take-le}
 use borrow.Author.Tests.{leb-true, le-ltb}
 use Rattle.classes.specs.Choice.{pick}
@@ -57,7 +57,9 @@ unfolding tokenAt
 fair s p = fair-behind s (blankEnd s p) (blankAt s p)
 
 within-16 : (t : List Key) (v : List ℕ) → every (λ k. leb (length (k .word)) 16) t ≡ true → 1 ≤ find t v → length v ≤ 16
-within-16 t v e h = leb-true (length v) 16 (held (λ k. leb (length (k .word)) 16) t (record { word = v; number = find t v }) e (stands t v (find t v) h refl))
+within-16 t v e h =
+    leb-true (length v) 16
+    (held (λ k. leb (length (k .word)) 16) t (record { word = v; number = find t v }) e (stands t v (find t v) h refl))
 
 -- no table has a word of more than 16 bytes
 at-most-16 : (c : Table) (v : List ℕ) → 1 ≤ numberIn c v → length v ≤ 16
@@ -68,7 +70,8 @@ at-most-16 dividers v h = within-16 w.dividers v refl h
 at-most-16 edges v h = within-16 w.edges v refl h
 at-most-16 units v h = within-16 w.units v refl h
 
-pub short : (s : List ℕ) (p k b e : ℕ) (long : Bool) (c : Table) → p ≤ length s → tokenAt s p ≡ Got k b e long → k ≡ 7 → 1 ≤ numberIn c (part b e s) → long ≡ false
+pub short : (s : List ℕ) (p k b e : ℕ) (long : Bool) (c : Table) → p ≤ length s → tokenAt s p ≡ Got k b e long →
+    k ≡ 7 → 1 ≤ numberIn c (part b e s) → long ≡ false
 short s p k b e long c h tok q f =
     let g = onwards s p k b e long h tok in
     let n : length (part b e s) ≡ e - b = length-take-le (e - b) (drop b s) (rw length-drop (omega (arith, g .2))) in

@@ -8,14 +8,15 @@ use lib.Dec.{eqb}
 use lib.ListN.{length, drop}
 use Rattle.classes.specs.Choice.{pick}
 use Rattle.tokens.specs.Stream.{Placed}
-use Rattle.grammar.specs.Ll.{Sym, lit, non, Alt}
+use Rattle.grammar.specs.Ll.{Sym, lit, non}
 use Rattle.grammar.specs.Machine.{Res, fine, bad}
 use Rattle.grammar.specs.declared.Hand.{Hand}
 use Rattle.grammar.specs.declared.Mark.{Mark}
 use Rattle.grammar.specs.declared.Mark.the-variants as mark
 use Rattle.grammar.specs.declared.ReadName.{ReadName}
 use Rattle.grammar.specs.declared.ReadName.the-variants as rn
-use Rattle.grammar.specs.Grammar.{Term, N, text, word, units, number, unity, heading, skip, _!_, _‼_, _⇒_, keyword, ⟨, ⟩, header, heads, textHead, divider, timescale, bare, file}
+use Rattle.grammar.specs.Grammar.{Term, N, text, word, units, number, unity, heading, skip, _!_, _‼_, _⇒_, keyword, ⟨, ⟩, header, heads, divider}
+use Rattle.grammar.specs.Grammar.{timescale, bare, file}
 use Rattle.grammar.specs.Meaning.{Log, tidy}
 use Rattle.grammar.specs.Reading.{At, reading, stepped}
 use Rattle.grammar.specs.Outcome.{Stack, state}
@@ -34,14 +35,14 @@ InText s (mark.Refused n q) = Unit {0}
 abbrev pub Takes : List ℕ → ℕ → Stack → Bool → Hand → Type 0
 Takes s p ys o r =
     ((y : Sym Term N) (ss : Stack) (slash : Bool) (unit cr ir : ℕ) (l : Log) →
-      reading s (state (ys ++ y ∷ ss) o slash unit cr ir l) p ≡ holds s r (state (y ∷ ss) true slash unit cr ir l))
+    reading s (state (ys ++ y ∷ ss) o slash unit cr ir l) p ≡ holds s r (state (y ∷ ss) true slash unit cr ir l))
     × InHand s r
 
 -- the token in hand where the keyword n has to stand
 abbrev pub KeyRead : List ℕ → Hand → ℕ → Mark → Type 0
 KeyRead s h n r =
     ((ss : Stack) (slash : Bool) (unit cr ir : ℕ) (l : Log) →
-      holds s h (state (lit (keyword n) ∷ ss) true slash unit cr ir l) ≡ onward s r (state ss false slash unit cr ir l))
+    holds s h (state (lit (keyword n) ∷ ss) true slash unit cr ir l) ≡ onward s r (state ss false slash unit cr ir l))
     × InText s r
 
 -- a quoted string, from its first quote to behind its last one
@@ -56,34 +57,35 @@ TextRead s p r = ((slash : Bool) → ReadsOne s p text false slash r) × Spans r
 abbrev pub HeadingRead : List ℕ → ℕ → ℕ → List ℕ → List ℕ → Hand → Type 0
 HeadingRead s p h ts ts′ r =
     ((y : Sym Term N) (ss : Stack) (slash : Bool) (unit cr ir : ℕ) →
-      reading s (state (lit (text ! (heading h)) ∷ ⟩ ∷ ⟨ ∷ y ∷ ss) false slash unit cr ir (tidy ts [] [])) p ≡
-      holds s r (state (y ∷ ss) true slash unit cr ir (tidy ts′ [] [])))
+    reading s (state (lit (text ! (heading h)) ∷ ⟩ ∷ ⟨ ∷ y ∷ ss) false slash unit cr ir (tidy ts [] [])) p ≡
+    holds s r (state (y ∷ ss) true slash unit cr ir (tidy ts′ [] [])))
     × InHand s r
 
 -- a bare number where one is expected: 0, or the refusal
 abbrev pub NumberShape : Placed → ℕ → Type 0
 NumberShape t r =
     (ss : Stack) (slash : Bool) (unit cr ir : ℕ) (l : Log) →
-      stepped (state (lit (number true ! skip) ∷ ss) false slash unit cr ir l) t ≡ pick (eqb r 0) (fine (state ss false slash unit cr ir l)) (bad r (t .start))
+    stepped (state (lit (number true ! skip) ∷ ss) false slash unit cr ir l) t ≡
+    pick (eqb r 0) (fine (state ss false slash unit cr ir l)) (bad r (t .start))
 
 -- all of this place of the grammar, which means nothing
 abbrev pub Skips : List ℕ → ℕ → N → Mark → Type 0
 Skips s p y r =
     ((ss : Stack) (slash : Bool) (unit cr ir : ℕ) (l : Log) →
-      reading s (state (non y ∷ ss) false slash unit cr ir l) p ≡ onward s r (state ss false slash unit cr ir l))
+    reading s (state (non y ∷ ss) false slash unit cr ir l) p ≡ onward s r (state ss false slash unit cr ir l))
     × InText s r
 
 -- a time scale's unit behind its number, which is 10 ^ power; and a whole time scale: 10 ^ unit femtoseconds
 abbrev pub UnitRead : List ℕ → ℕ → ℕ → Mark → ℕ → Type 0
 UnitRead s p power r unit =
     ((ss : Stack) (slash : Bool) (cr ir : ℕ) (l : Log) →
-      reading s (state (lit (word units 1 16 ‼ unity) ∷ ss) false slash power cr ir l) p ≡ onward s r (state ss false slash unit cr ir l))
+    reading s (state (lit (word units 1 16 ‼ unity) ∷ ss) false slash power cr ir l) p ≡ onward s r (state ss false slash unit cr ir l))
     × InText s r
 
 abbrev pub ScaleRead : List ℕ → ℕ → Mark → ℕ → Type 0
 ScaleRead s p r unit =
     ((ss : Stack) (slash : Bool) (u cr ir : ℕ) (l : Log) →
-      reading s (state (non timescale ∷ ss) false slash u cr ir l) p ≡ onward s r (state ss false slash unit cr ir l))
+    reading s (state (non timescale ∷ ss) false slash u cr ir l) p ≡ onward s r (state ss false slash unit cr ir l))
     × InText s r
 
 -- at the header entry of this number, behind its opening bracket
@@ -118,7 +120,7 @@ PassesBare s n h h′ = (ts : List ℕ) → Passes s n h ts h′ ts
 abbrev pub DividerRead : List ℕ → ℕ → Hand → Bool → Type 0
 DividerRead s p h slash =
     ((unit cr ir : ℕ) (ts : List ℕ) →
-      reading s (state (non divider ∷ []) false false unit cr ir (tidy ts [] [])) p ≡ holds s h (before 6 slash unit cr ir ts))
+    reading s (state (non divider ∷ []) false false unit cr ir (tidy ts [] [])) p ≡ holds s h (before 6 slash unit cr ir ts))
     × InHand s h
 
 abbrev pub PassesDivider : List ℕ → Hand → Hand → Bool → Type 0

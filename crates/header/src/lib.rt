@@ -2,47 +2,48 @@
 // from one optional entry to the next; an entry whose keyword it is reads on, and takes the next such token in hand. A refusal is handed
 // on as it is. Each contract is an equation between readings (specs/Steps.antt).
 ghost use mathlib.Core.Path.{_≡_};
-ghost use mathlib.Core.Bool.{Bool, true, false};
-ghost use mathlib.Core.List.{List, [], _∷_};
-ghost use Prim.Native.Nat.{ℕ, _+_, _-_, _≤_, _<_};
+ghost use mathlib.Core.Bool.{true, false};
+ghost use mathlib.Core.List.{[], _∷_};
+ghost use Prim.Native.Nat.{_≤_};
 ghost use lib.ListN.{length};
 ghost use Rattle.classes.specs.Classes.{classes};
 ghost use Rattle.tokens.specs.Stream.{placed};
 ghost use Rattle.grammar.specs.Grammar.{⟨, ⟩, bare, bare1, bare2, bare3};
 ghost use Rattle.rules.specs.Contracts.{InHand, HeaderRead};
 ghost use Rattle.header.specs.Texts.{textOf};
-ghost use Rattle.header.specs.Steps.{Takes, TextRead, HeadingRead, KeyRead, NumberShape, Skips, ScaleRead, DividerRead, IsText, IsBare, Passes, PassesBare, PassesDivider, PassesScale, UnitRead, FileOpened};
-use tokens::Token;
-use tokens::token_from;
-use words::key_of;
-use words::divider_of;
-use words::scale_of;
-use words::unit_of;
-use names::part_of;
-use times::is_number;
-use grammar::Mark;
-use grammar::ReadName;
-use grammar::Hand;
-use grammar::Head;
+ghost use Rattle.header.specs.Steps.{Takes, KeyRead, TextRead, HeadingRead, NumberShape, Skips, UnitRead, ScaleRead, DividerRead};
+ghost use Rattle.header.specs.Steps.{IsText, IsBare, Passes, PassesBare, PassesDivider, PassesScale, FileOpened};
 use entries::expect;
 use entries::wrong_at;
+use grammar::Hand;
+use grammar::Head;
+use grammar::Mark;
+use grammar::ReadName;
+use names::part_of;
+use times::is_number;
+use tokens::Token;
+use tokens::token_from;
+use words::divider_of;
+use words::key_of;
+use words::scale_of;
+use words::unit_of;
 
 // What DIVIDER says: whether it is /; and the token in hand behind it.
-pub struct Divided {
-    pub hand: Hand,
-    pub slash: bool,
+struct Divided {
+    hand: Hand,
+    slash: bool,
 }
 
 // What TIMESCALE says, 10 ^ unit femtoseconds; and the token in hand behind it.
-pub struct Scaled {
-    pub hand: Hand,
-    pub unit: u8,
+struct Scaled {
+    hand: Hand,
+    unit: u8,
 }
 
 // A time scale, and where it ends.
-pub struct Scale {
-    pub end: Mark,
-    pub unit: u8,
+struct Scale {
+    end: Mark,
+    unit: u8,
 }
 
 // ---- the token in hand

@@ -87,13 +87,14 @@ returns c =
     let pass-bare = c .before .before .before .before .pass-bare in
     let pass-text6 = c .before .before .pass-text6 in
     let pass-bare2 = c .before .pass-bare2 in
-    let pass-scale = c .pass-scale in
-    (header-read (now (args .text)) _ _ _ _ _ _ _ _ (open-file .result) (pass-text .result) (pass-text2 .result) (pass-text3 .result) (pass-text4 .result) (pass-text5 .result)
-    (pass-divider .result .hand) (pass-bare .result) (pass-text6 .result) (pass-bare2 .result)
-    (record { hand = pass-scale .result .hand; slash = pass-divider .result .slash; unit = pass-scale .result .unit })
-    (open-file .ensures) (pass-text .ensures) (pass-text2 .ensures) (pass-text3 .ensures) (pass-text4 .ensures) (pass-text5 .ensures)
-    (pass-divider .ensures) (pass-bare .ensures) (pass-text6 .ensures) (pass-bare2 .ensures) (pass-scale .ensures .0),
-    pass-scale .ensures .1)
+    let pass-scale = c .pass-scale in (
+      header-read (now (args .text)) _ _ _ _ _ _ _ _ (open-file .result) (pass-text .result) (pass-text2 .result) (pass-text3 .result) (pass-text4 .result) (pass-text5 .result)
+          (pass-divider .result .hand) (pass-bare .result) (pass-text6 .result) (pass-bare2 .result)
+          (record { hand = pass-scale .result .hand; slash = pass-divider .result .slash; unit = pass-scale .result .unit })
+          (open-file .ensures) (pass-text .ensures) (pass-text2 .ensures) (pass-text3 .ensures) (pass-text4 .ensures) (pass-text5 .ensures)
+          (pass-divider .ensures) (pass-bare .ensures) (pass-text6 .ensures) (pass-bare2 .ensures) (pass-scale .ensures .0),
+      pass-scale .ensures .1,
+    )
 
 pub read-header-spec : {M : Type 1} → statement M
 read-header-spec =
