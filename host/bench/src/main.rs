@@ -1,58 +1,184 @@
-//! The benchmark: the proved functions, through the static library, as ratios to the plainest possible byte loop in the same run.
+//! The benchmark: the proved functions, through the static library, against the second program and the plainest possible
+//! byte loop, all in the same run. Prints Markdown tables; the best of some runs counts.
 
+mod measure;
 mod text;
 
 use std::hint::black_box;
-use std::time::Instant;
 
-extern "C" {
-    fn boomcrutch_count_tokens(text: *const u8, len: usize) -> usize;
-}
+use command::blank::blank;
+use command::rooms::{Rooms, Wanted};
+use proved::{Functions, Swap};
+use text::{macro_cell, netlist, stars, Order};
 
-/// How many tokens a text has, by the proved library.
-fn count_tokens(text: &[u8]) -> usize {
-    // The function has no `requires`: any readable bytes are fine.
-    unsafe { boomcrutch_count_tokens(text.as_ptr(), text.len()) }
-}
+use measure::{best, loop_time, print_table, with_commas, Row};
 
-/// The plainest possible loop that looks at each byte: one table look-up and a sum that the next byte waits for.
-fn byte_loop(text: &[u8], table: &[u8; 256]) -> u64 {
-    let mut sum = 0u64;
-    for &b in text {
-        sum = sum.wrapping_mul(31).wrapping_add(u64::from(table[usize::from(b)]));
-    }
-    sum
-}
-
-/// The best of some runs, in seconds.
-fn best<T>(runs: usize, mut work: impl FnMut() -> T) -> f64 {
-    (0..runs)
-        .map(|_| {
-            let start = Instant::now();
-            black_box(work());
-            start.elapsed().as_secs_f64()
-        })
-        .fold(f64::INFINITY, f64::min)
-}
+/// How many INTERCONNECT and how many IOPATH entries the annotated files have.
+const WIRES: [usize; 3] = [4_000, 16_000, 33_000];
 
 fn main() {
-    let mut table = [0u8; 256];
-    for (i, class) in table.iter_mut().enumerate() {
-        *class = (i % 13) as u8;
+    let texts: Vec<Vec<u8>> = [1_000_000, 4_000_000, 10_000_000].map(text::board).to_vec();
+    print_table("Tokens", &texts.iter().map(|text| tokens_row(text)).collect::<Vec<_>>());
+    if !proved::has(Functions::Read) {
+        return println!("\nThe library was linked without the functions that read.");
     }
-    println!("{:>10}  {:>10}  {:>14}  {:>14}  {:>6}", "bytes", "tokens", "byte loop MB/s", "tokens MB/s", "ratio");
-    for size in [1_000_000, 10_000_000] {
-        let text = text::board(size);
-        let loop_time = best(15, || byte_loop(black_box(&text), black_box(&table)));
-        let token_time = best(15, || count_tokens(black_box(&text)));
-        let rate = |seconds: f64| text.len() as f64 / seconds / 1e6;
-        println!(
-            "{:>10}  {:>10}  {:>14.0}  {:>14.0}  {:>6.2}",
-            text.len(),
-            count_tokens(&text),
-            rate(loop_time),
-            rate(token_time),
-            loop_time / token_time
+    print_table("Reading", &texts.iter().map(|text| read_row(text)).collect::<Vec<_>>());
+    if proved::has(Functions::Sheet) {
+        print_table("Checking a sheet", &WIRES.map(|wires| Board::new(netlist(wires, Order::Netlist)).check_row()));
+    }
+    if proved::has(Functions::Annotate) {
+        print_table("Annotating", &annotate_rows());
+    }
+    if proved::has(Functions::Patch) {
+        print_table(
+            "Patching one cell of ten entries",
+            &WIRES.map(|wires| patch_row(&Board::new(netlist(wires, Order::Netlist)))),
         );
     }
+    if [Functions::Sheet, Functions::Annotate, Functions::Patch].into_iter().all(proved::has) {
+        print_shares(&Board::new(netlist(WIRES[2], Order::Netlist)));
+    }
+}
+
+fn tokens_row(text: &[u8]) -> Row {
+    Row {
+        what: "count tokens".to_string(),
+        bytes: text.len(),
+        byte_loop: loop_time(&[text]),
+        second: Some(best(3, || second::tokens::tokens(black_box(text)).list.len())),
+        proved: best(9, || proved::count_tokens(black_box(text))),
+    }
+}
+
+fn read_row(text: &[u8]) -> Row {
+    let mut rooms = Rooms::new(text, Wanted::default());
+    let read = proved::read_file(text, &mut rooms.tables());
+    assert_eq!(read.number, 0, "the text is refused at {}", read.place);
+    Row {
+        what: format!("read, {} entries", with_commas(read.entries as usize)),
+        bytes: text.len(),
+        byte_loop: loop_time(&[text]),
+        second: Some(best(3, || second::read_file(black_box(text), usize::MAX, usize::MAX))),
+        proved: best(9, || proved::read_file(black_box(text), &mut rooms.tables())),
+    }
+}
+
+/// A file, its tables and a starting sheet that fits it.
+struct Board {
+    text: Vec<u8>,
+    rooms: Rooms,
+    start: Vec<u8>,
+    entries: usize,
+    cells: usize,
+}
+
+impl Board {
+    fn new(text: Vec<u8>) -> Board {
+        let mut rooms = Rooms::new(&text, Wanted::default());
+        let read = proved::read_file(&text, &mut rooms.tables());
+        assert_eq!(read.number, 0, "the text is refused at {}", read.place);
+        let start = blank(&text, &rooms, &read).expect("a starting sheet");
+        Board { text, rooms, start, entries: read.entries as usize, cells: read.cells as usize }
+    }
+
+    fn check_row(&self) -> Row {
+        Row {
+            what: "check the sheet".to_string(),
+            bytes: self.start.len(),
+            byte_loop: loop_time(&[&self.start]),
+            second: Some(best(3, || second::check_sheet(black_box(&self.start)))),
+            proved: best(9, || proved::check_sheet(black_box(&self.start))),
+        }
+    }
+
+    /// How long annotating takes, and the annotated sheet.
+    fn annotate(&mut self) -> (f64, Vec<u8>) {
+        let mut out = vec![0; self.start.len()];
+        let Board { text, rooms, start, .. } = self;
+        let answer = proved::annotate(start, text, &mut rooms.tables(), &mut out);
+        assert_eq!(answer.number, 0, "refused {} at {}", answer.number, answer.place);
+        let time = best(5, || proved::annotate(black_box(start), black_box(text), &mut rooms.tables(), &mut out));
+        (time, out)
+    }
+
+    fn annotate_row(mut self, what: &str) -> Row {
+        let (proved, annotated) = self.annotate();
+        let mut out = vec![0; self.start.len()];
+        let second = best(2, || second::annotate(&self.start, &self.text, usize::MAX, usize::MAX, &mut out));
+        assert!(out == annotated, "the two programs give different sheets");
+        Row {
+            what: format!(
+                "annotate, {what}, {} entries, sheet of {:.1} MB",
+                self.entries,
+                self.start.len() as f64 / 1e6
+            ),
+            bytes: self.text.len(),
+            byte_loop: loop_time(&[&self.text, &self.start]),
+            second: Some(second),
+            proved,
+        }
+    }
+}
+
+fn annotate_rows() -> Vec<Row> {
+    let mut rows = Vec::new();
+    for (what, order) in
+        [("netlist order", Order::Netlist), ("sheet order", Order::Sheet), ("reverse order", Order::Reverse)]
+    {
+        rows.extend(WIRES.map(|wires| Board::new(netlist(wires, order)).annotate_row(what)));
+    }
+    rows.extend(WIRES.map(|wires| Board::new(stars(wires)).annotate_row("many `*` cells")));
+    rows
+}
+
+/// How long the patch of the ten-entry cell takes by the proved functions; the patched sheet is in `current`.
+fn patch_time(board: &Board, current: &mut [u8]) -> f64 {
+    let incoming = macro_cell(7);
+    let mut rooms = Rooms::new(&board.text, Wanted::default());
+    let mut incoming_rooms = Rooms::new(incoming.as_bytes(), Wanted::default());
+    let number = board.cells as u64;
+    let swap = Swap { start: &board.start, file: &board.text, number, incoming: incoming.as_bytes() };
+    let answer = proved::patch(swap, current, &mut rooms.tables(), &mut incoming_rooms.tables());
+    assert_eq!(answer.number, 0, "refused {} at {}", answer.number, answer.place);
+    best(5, || proved::patch(black_box(swap), current, &mut rooms.tables(), &mut incoming_rooms.tables()))
+}
+
+fn patch_row(board: &Board) -> Row {
+    let (mut current, mut by_second) = (board.start.clone(), board.start.clone());
+    let proved = patch_time(board, &mut current);
+    let incoming = macro_cell(7);
+    let rooms = second::Rooms { cells: usize::MAX, entries: usize::MAX };
+    let number = board.cells as u64;
+    let second =
+        best(2, || second::patch(&board.start, &board.text, number, incoming.as_bytes(), &mut by_second, rooms, rooms));
+    assert!(current == by_second, "the two programs give different sheets");
+    Row {
+        what: format!(
+            "patch, {} entries, sheet of {:.1} MB",
+            with_commas(board.entries),
+            board.start.len() as f64 / 1e6
+        ),
+        bytes: board.text.len(),
+        byte_loop: loop_time(&[&board.text, &board.start, &board.start]),
+        second: Some(second),
+        proved,
+    }
+}
+
+/// What a patch costs beside annotating, whole and beyond reading the file and checking the sheet, which both need.
+fn print_shares(board: &Board) {
+    let mut board = Board::new(board.text.clone());
+    let read = best(5, || proved::read_file(black_box(&board.text), &mut board.rooms.tables()));
+    let check = best(5, || proved::check_sheet(black_box(&board.start)));
+    let (annotate, mut current) = board.annotate();
+    let patch = patch_time(&board, &mut current);
+    let beyond = |time: f64| (time - read - check).max(0.0);
+    println!("\n### Shares, {} entries\n", with_commas(board.entries));
+    println!("| what | ms | beyond reading and checking, ms |");
+    println!("|---|---:|---:|");
+    println!("| read the file | {:.2} | |\n| check the sheet | {:.2} | |", 1e3 * read, 1e3 * check);
+    println!("| annotate | {:.2} | {:.2} |", 1e3 * annotate, 1e3 * beyond(annotate));
+    println!("| patch | {:.2} | {:.2} |", 1e3 * patch, 1e3 * beyond(patch));
+    let share = beyond(patch) / beyond(annotate).max(1e-9);
+    println!("| patch, as a share of annotating | {:.2} | {share:.2} |", patch / annotate);
 }
