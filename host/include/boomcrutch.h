@@ -33,6 +33,7 @@ typedef struct boomcrutch_read {
     uint64_t number, place, cells, entries;
     uint64_t slash; /* the divider: 1 for /, 0 for . */
     uint64_t scale; /* the time scale: a power of ten in femtoseconds */
+    size_t texts[14]; /* from, to of SDFVERSION, DESIGN, DATE, VENDOR, PROGRAM, VERSION, PROCESS, between the quotes; a missing one 0, 0 */
 } boomcrutch_read;
 
 /* Number 0 or 10. */
@@ -44,11 +45,6 @@ typedef struct boomcrutch_sheet {
 typedef struct boomcrutch_result {
     uint64_t number, place, incoming, cells, entries, incoming_cells, incoming_entries;
 } boomcrutch_result;
-
-/* The bytes from `from` up to, not including, `to`. */
-typedef struct boomcrutch_part {
-    uint64_t from, to;
-} boomcrutch_part;
 
 /* How many tokens a text has before what ends them. */
 size_t boomcrutch_count_tokens(const uint8_t *text, size_t text_length);
@@ -62,10 +58,6 @@ boomcrutch_read boomcrutch_read_file(const uint8_t *text, size_t text_length,
 boomcrutch_read boomcrutch_read_cell(const uint8_t *text, size_t text_length, uint64_t slash, uint64_t scale,
                                      uint64_t *cells, size_t cells_length,
                                      uint64_t *entries, size_t entries_length);
-
-/* Where a text of a file's header stands: 0 SDFVERSION, 1 DESIGN, 2 DATE, 3 VENDOR, 4 PROGRAM, 5 VERSION, 6 PROCESS.
- * A missing one, and any of a refused file, is 0, 0. */
-boomcrutch_part boomcrutch_header_text(const uint8_t *text, size_t text_length, uint64_t which);
 
 /* Judges the form of a sheet. */
 boomcrutch_sheet boomcrutch_check_sheet(const uint8_t *sheet, size_t sheet_length);

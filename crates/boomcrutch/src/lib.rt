@@ -1,7 +1,39 @@
 // What Rust and C call: the functions of the static library. None has a `requires`.
 ghost use mathlib.Core.Path.{_≡_};
+ghost use Prim.Native.Nat.{_/_};
+ghost use lib.ListN.{length};
+ghost use Rattle.classes.specs.Choice.{pick};
 ghost use Rattle.tokens.specs.Stream.{stream, count};
+ghost use Rattle.grammar.specs.Outcome.{readFile};
+ghost use Rattle.reader.specs.Files.{cellsLeft, entriesLeft};
+ghost use Rattle.sheetform.specs.Form.{checkOf};
+ghost use Rattle.boomcrutch.specs.Exports.{readNumbers, sheetNumbers};
 use tokens::count_tokens;
+use reader::Answer;
+use reader::read_file;
+use sheetform::SheetCheck;
+use sheetform::check_sheet;
+
+// The answer of a reading: number 0 and what was read, with from, to of each of the header's texts; or a refusal's number and place.
+#[repr(C)]
+pub struct ReadNumbers {
+    pub number: u64,
+    pub place: u64,
+    pub cells: u64,
+    pub entries: u64,
+    pub slash: u64,
+    pub scale: u64,
+    pub texts: [usize; 14],
+}
+
+// The answer of a sheet's check: number 0 and the counts, or refusal 10.
+#[repr(C)]
+pub struct SheetNumbers {
+    pub number: u64,
+    pub place: u64,
+    pub instances: u64,
+    pub arcs: u64,
+}
 
 // How many tokens a text has before what ends them.
 #[no_mangle]
@@ -9,4 +41,44 @@ pub extern "C" fn boomcrutch_count_tokens(text: &[u8]) -> usize
     ensures { λ r. ⌜ r ≡ count (stream (now (text .entry)) 0 .toks) ⌝ }
 {
     count_tokens(text)
+}
+
+fn bit(flag: bool) -> u64
+    ensures { λ r. ⌜ r ≡ pick flag 1 0 ⌝ }
+{
+    if flag { 1 } else { 0 }
+}
+
+// Reads a file into the two tables.
+#[no_mangle]
+pub extern "C" fn boomcrutch_read_file(text: &[u8], cells: &mut [u64], entries: &mut [u64]) -> ReadNumbers
+    ensures { λ r. ⌜ (r ≡ readNumbers (readFile (length (now (cells .entry)) / 7) (length (now (entries .entry)) / 28) (now (text .entry)))) × (now (cells .exit) ≡ cellsLeft (readFile (length (now (cells .entry)) / 7) (length (now (entries .entry)) / 28) (now (text .entry))) (now (cells .entry))) × (now (entries .exit) ≡ entriesLeft (readFile (length (now (cells .entry)) / 7) (length (now (entries .entry)) / 28) (now (text .entry))) (now (entries .entry))) ⌝ }
+{
+    let read = read_file(text, cells, entries);
+    let answer = read.answer;
+    let texts = read.texts;
+    match answer {
+        Answer::Refused { number, place } => {
+            ReadNumbers { number: number as u64, place: place as u64, cells: 0, entries: 0, slash: 0, scale: 0, texts: texts }
+        }
+        Answer::Read { cells: c, entries: e } => {
+            let slash = read.slash;
+            let unit = read.unit;
+            ReadNumbers { number: 0, place: 0, cells: c as u64, entries: e as u64, slash: bit(slash), scale: unit as u64, texts: texts }
+        }
+    }
+}
+
+// Checks a timing sheet.
+#[no_mangle]
+pub extern "C" fn boomcrutch_check_sheet(sheet: &[u8]) -> SheetNumbers
+    ensures { λ r. ⌜ r ≡ sheetNumbers (checkOf (now (sheet .entry))) ⌝ }
+{
+    let check = check_sheet(sheet);
+    match check {
+        SheetCheck::Bad { number, place } => SheetNumbers { number: 10, place: 0, instances: 0, arcs: 0 },
+        SheetCheck::Good { instances, arcs, first_arc } => {
+            SheetNumbers { number: 0, place: 0, instances: instances as u64, arcs: arcs as u64 }
+        }
+    }
 }

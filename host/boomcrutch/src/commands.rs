@@ -166,16 +166,15 @@ fn list(given: &Given) -> Done {
 }
 
 fn label(given: &Given) -> Done {
-    let Reading { input, .. } = reading(read(given.place(0))?, Wanted::default())?;
+    let Reading { input, answer, .. } = reading(read(given.place(0))?, Wanted::default())?;
     print(|out| {
-        for (which, keyword) in (0..).zip(HEADER_TEXTS) {
-            let part = proved::header_text(&input.bytes, which);
+        for (part, keyword) in answer.texts.chunks(2).zip(HEADER_TEXTS) {
             // No text stands at 0, so this one is missing.
-            if part.from == 0 {
+            if part[0] == 0 {
                 continue;
             }
             write!(out, "{keyword} ")?;
-            out.write_all(input.bytes.get(part.from as usize..part.to as usize).unwrap_or(&[]))?;
+            out.write_all(input.bytes.get(part[0]..part[1]).unwrap_or(&[]))?;
             out.write_all(b"\n")?;
         }
         Ok(())

@@ -1,7 +1,7 @@
 //! What a call leaves, in the words of the static library: by the library, and by the second program.
 
 use proved::{Functions, Swap, Tables, ABSENT, CELL_WORDS, ENTRY_WORDS, HEADER_TEXTS};
-use second::{outcome, read_file, Answer, Case, Cell, Entry, File, Kind, Part, Path, Refusal, Rooms};
+use second::{outcome, Answer, Case, Cell, Entry, File, Kind, Part, Path, Refusal, Rooms};
 
 /// Everything that a caller can see after a call.
 #[derive(Debug)]
@@ -125,7 +125,8 @@ pub fn proved_tokens(case: &Case) -> usize {
 /// The feature without which a case cannot be run.
 pub fn missing(case: &Case) -> Option<&'static str> {
     let (functions, feature) = match case {
-        Case::ReadFile { .. } | Case::ReadCell { .. } => (Functions::Read, "read"),
+        Case::ReadFile { .. } => (Functions::Read, "read"),
+        Case::ReadCell { .. } => (Functions::Cell, "cell"),
         Case::CheckSheet { .. } => (Functions::Sheet, "sheet"),
         Case::Annotate { .. } => (Functions::Annotate, "annotate"),
         Case::Patch { .. } => (Functions::Patch, "patch"),
@@ -163,22 +164,12 @@ fn lent_sheet(case: &Case) -> Vec<u8> {
     }
 }
 
-/// Numbers of header texts to ask for: all that there are, and two that there are not; of a long text only one, as each
-/// time the whole text is read.
-fn header_numbers(case: &Case) -> &'static [u64] {
-    match case {
-        Case::ReadFile { text, .. } if text.len() > 1_000_000 => &[1],
-        Case::ReadFile { .. } => &[0, 1, 2, 3, 4, 5, 6, 7, u64::MAX],
-        _ => &[],
-    }
-}
-
 pub fn by_second(case: &Case) -> Left {
     let outcome = outcome(case);
     let (tables, incoming_tables) = lent(case);
     Left {
         answer: answer_words(case, &outcome.answer, outcome.tables.as_ref()),
-        header: second_header(case),
+        header: second_header(case, outcome.tables.as_ref()),
         tokens: second_tokens(case),
         tables: tables.fill(outcome.tables.as_ref()),
         incoming_tables: incoming_tables.fill(outcome.incoming_tables.as_ref()),
@@ -186,18 +177,16 @@ pub fn by_second(case: &Case) -> Left {
     }
 }
 
-/// "a missing one, or a refused file: 0,0"; room plays no part in it.
-fn second_header(case: &Case) -> Vec<(u64, u64)> {
-    let Case::ReadFile { text, .. } = case else {
+/// From, to of each of the header's texts: "a missing one, or a refused file: 0,0".
+fn second_header(case: &Case, file: Option<&File>) -> Vec<(u64, u64)> {
+    let Case::ReadFile { .. } = case else {
         return Vec::new();
     };
-    let header = read_file(text, usize::MAX, usize::MAX).map_or(Vec::new(), |file| file.header);
-    let part = |which: u64| {
-        let keyword = usize::try_from(which).ok().and_then(|which| HEADER_TEXTS.get(which));
-        let found = header.iter().find(|text| Some(&text.0) == keyword);
+    let part = |keyword: &&str| {
+        let found = file.and_then(|file| file.header.iter().find(|text| text.0 == *keyword));
         found.map_or((0, 0), |text| (text.1 as u64, text.2 as u64))
     };
-    header_numbers(case).iter().map(|which| part(*which)).collect()
+    HEADER_TEXTS.iter().map(part).collect()
 }
 
 /// The answer as the C struct of this operation has it. After a refusal the rest is 0.
@@ -229,16 +218,23 @@ fn refusal_words(case: &Case, refusal: Refusal) -> Vec<u64> {
 pub fn by_proved(case: &Case) -> Left {
     let (mut tables, mut incoming_tables) = lent(case);
     let mut sheet = lent_sheet(case);
-    let answer = proved_answer(case, &mut tables.tables(), &mut incoming_tables.tables(), &mut sheet);
-    let text = text_of(case).0;
-    let parts = header_numbers(case).iter().map(|which| proved::header_text(text, *which));
-    let header = parts.map(|part| (part.from, part.to)).collect();
+    let (answer, header) = proved_answer(case, &mut tables.tables(), &mut incoming_tables.tables(), &mut sheet);
     Left { answer, header, tokens: proved_tokens(case), tables, incoming_tables, sheet }
 }
 
-fn proved_answer(case: &Case, tables: &mut Tables, incoming_tables: &mut Tables, sheet: &mut [u8]) -> Vec<u64> {
-    match case {
-        Case::ReadFile { text, .. } => read_words(proved::read_file(text, tables)),
+/// The answer's numbers, and the places of the header's texts where a file is read.
+fn proved_answer(
+    case: &Case,
+    tables: &mut Tables,
+    incoming_tables: &mut Tables,
+    sheet: &mut [u8],
+) -> (Vec<u64>, Vec<(u64, u64)>) {
+    let words = match case {
+        Case::ReadFile { text, .. } => {
+            let answer = proved::read_file(text, tables);
+            let header = answer.texts.chunks(2).map(|part| (part[0] as u64, part[1] as u64)).collect();
+            return (read_words(answer), header);
+        }
         Case::ReadCell { text, divider, scale, .. } => {
             read_words(proved::read_cell(text, *divider == b'/', u64::from(*scale), tables))
         }
@@ -251,7 +247,8 @@ fn proved_answer(case: &Case, tables: &mut Tables, incoming_tables: &mut Tables,
             let swap = Swap { start, file, number: *number, incoming };
             result_words(proved::patch(swap, sheet, tables, incoming_tables))
         }
-    }
+    };
+    (words, Vec::new())
 }
 
 fn read_words(answer: proved::ReadAnswer) -> Vec<u64> {

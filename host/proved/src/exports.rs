@@ -12,6 +12,8 @@ pub struct ReadAnswer {
     pub slash: u64,
     /// The time scale as a power of ten in femtoseconds.
     pub scale: u64,
+    /// From, to of each of the header's texts; 0, 0 for a missing one.
+    pub texts: [usize; 14],
 }
 
 /// What judging a sheet answers: number 0 or 10.
@@ -38,14 +40,6 @@ pub struct ResultAnswer {
     pub incoming_entries: u64,
 }
 
-/// A part of the text: the bytes from `from` up to, not including, `to`.
-#[repr(C)]
-#[derive(Clone, Copy, Debug, PartialEq, Eq)]
-pub struct PartAnswer {
-    pub from: u64,
-    pub to: u64,
-}
-
 /// Declares each function, or, where its feature is off, one that stops the program.
 macro_rules! exported {
     ($($feature:literal: fn $name:ident($($argument:ident: $type:ty),*) -> $answer:ty;)*) => {
@@ -64,11 +58,10 @@ exported! {
         text: *const u8, text_length: usize,
         cells: *mut u64, cells_length: usize, entries: *mut u64, entries_length: usize
     ) -> ReadAnswer;
-    "read": fn boomcrutch_read_cell(
+    "cell": fn boomcrutch_read_cell(
         text: *const u8, text_length: usize, slash: u64, scale: u64,
         cells: *mut u64, cells_length: usize, entries: *mut u64, entries_length: usize
     ) -> ReadAnswer;
-    "read": fn boomcrutch_header_text(text: *const u8, text_length: usize, which: u64) -> PartAnswer;
     "sheet": fn boomcrutch_check_sheet(sheet: *const u8, sheet_length: usize) -> SheetAnswer;
     "annotate": fn boomcrutch_annotate(
         start: *const u8, start_length: usize, text: *const u8, text_length: usize,

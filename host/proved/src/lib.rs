@@ -10,7 +10,7 @@
 mod exports;
 mod records;
 
-pub use exports::{PartAnswer, ReadAnswer, ResultAnswer, SheetAnswer};
+pub use exports::{ReadAnswer, ResultAnswer, SheetAnswer};
 pub use records::{
     cell, cells, entries, entry, Cell, Edge, Entry, Group, Kind, Part, Path, ABSENT, CELL_WORDS, ENTRY_WORDS,
 };
@@ -22,6 +22,7 @@ pub const LIMIT: usize = 16_777_216;
 #[derive(Clone, Copy, Debug, PartialEq, Eq)]
 pub enum Functions {
     Read,
+    Cell,
     Sheet,
     Annotate,
     Patch,
@@ -31,6 +32,7 @@ pub enum Functions {
 pub const fn has(functions: Functions) -> bool {
     match functions {
         Functions::Read => cfg!(feature = "read"),
+        Functions::Cell => cfg!(feature = "cell"),
         Functions::Sheet => cfg!(feature = "sheet"),
         Functions::Annotate => cfg!(feature = "annotate"),
         Functions::Patch => cfg!(feature = "patch"),
@@ -81,11 +83,6 @@ pub fn read_cell(text: &[u8], slash: bool, scale: u64, tables: &mut Tables) -> R
             entries.len(),
         )
     }
-}
-
-/// Where a file's header text stands, by its number in [`HEADER_TEXTS`]; 0,0 for a missing one and for a refused file.
-pub fn header_text(text: &[u8], which: u64) -> PartAnswer {
-    unsafe { exports::boomcrutch_header_text(text.as_ptr(), text.len(), which) }
 }
 
 /// Judges the form of a sheet.

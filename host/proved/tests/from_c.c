@@ -60,12 +60,17 @@ static void reading(void) {
     expect("typical", entries[11], BOOMCRUTCH_ABSENT);
     expect("maximum", entries[12], 3000);
     expect("behind the entry", entries[28], UINT64_C(0x5A5A5A5A5A5A5A5A));
-    read = boomcrutch_read_cell(BYTES(CELL("1") " x"), 0, 6, WORDS(cells), WORDS(entries));
+    expect("design from", read.texts[2], 35);
+    expect("design to", read.texts[3], 36);
+}
+#endif
+
+#ifdef HAS_CELL
+static void reading_a_cell(void) {
+    lend();
+    boomcrutch_read read = boomcrutch_read_cell(BYTES(CELL("1") " x"), 0, 6, WORDS(cells), WORDS(entries));
     expect("refused", read.number, 4);
     expect("place", read.place, sizeof(CELL("1")));
-    boomcrutch_part design = boomcrutch_header_text(BYTES(FILE_TEXT), 1);
-    expect("design from", design.from, 35);
-    expect("design to", design.to, 36);
 }
 #endif
 
@@ -106,6 +111,9 @@ int main(void) {
     expect("tokens", boomcrutch_count_tokens(BYTES("(a \"b\" // c")), 3);
 #ifdef HAS_READ
     reading();
+#endif
+#ifdef HAS_CELL
+    reading_a_cell();
 #endif
 #ifdef HAS_SHEET
     boomcrutch_sheet sheet = boomcrutch_check_sheet(BYTES(SHEET));

@@ -13,6 +13,7 @@ fn from_c() {
     compiler.args(["-std=c11", "-Wall", "-Wextra", "-Werror", "-pedantic", "-I"]).arg(here.join("../include"));
     for (functions, name) in [
         (Functions::Read, "-DHAS_READ"),
+        (Functions::Cell, "-DHAS_CELL"),
         (Functions::Sheet, "-DHAS_SHEET"),
         (Functions::Annotate, "-DHAS_ANNOTATE"),
         (Functions::Patch, "-DHAS_PATCH"),
@@ -37,7 +38,7 @@ fn header_is_complete() {
     let (header, exports) = (text("../include/boomcrutch.h"), text("src/exports.rs"));
     let declared: Vec<&str> =
         exports.split("fn boomcrutch_").skip(1).map(|rest| rest.split('(').next().unwrap()).collect();
-    assert_eq!(declared.len(), 7);
+    assert_eq!(declared.len(), 6);
     for name in declared {
         assert!(header.contains(&format!(" boomcrutch_{name}(")), "{name}");
     }

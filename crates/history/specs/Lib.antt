@@ -1,0 +1,14 @@
+pub mod Events
+pub mod Sheet
+pub mod EventLaws
+pub mod SheetLaws
+pub mod Addressing
+pub mod Places
+pub mod Demands
+pub mod Faults
+pub mod Scan
+pub mod BySlots
+pub mod SheetBytes
+pub mod Ranges
+pub mod LeftOpen
+pub mod Worked

@@ -1,0 +1,1 @@
+// Specifications only: what annotating and patching mean, above reading (see specs/).
