@@ -1,4 +1,4 @@
-// What Rust and C call: the functions of the static library. None has a `requires`.
+// What Rust and C call: the functions of the static library. Each takes whatever it is given; bad input gets its refusal.
 ghost use mathlib.Core.Path.{_≡_};
 ghost use Prim.Native.Nat.{_/_};
 ghost use lib.ListN.{length};
