@@ -1,2 +1,4 @@
 pub mod Slots
 pub mod Numbers
+pub mod Arcs
+pub mod Spelled

@@ -12,7 +12,7 @@ use lib.Dec.{eqb}
 use lib.IntN.{ℤ, pos, negsuc, natAbs}
 use lib.ListN.{length, getD}
 use mir.Syntax.{w64}
-use mir.Val.{SFits, ofZ}
+use mir.Val.{SFits}
 use borrow.Author.Tests.{eqb-true, eq-eqb}
 use Rattle.classes.specs.Choice.{pick, and}
 use Rattle.history.specs.Events.{Value}
