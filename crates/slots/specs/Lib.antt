@@ -2,3 +2,4 @@ pub mod Slots
 pub mod Numbers
 pub mod Arcs
 pub mod Spelled
+pub mod Found
