@@ -30,12 +30,12 @@ setSheet s j i z = record { instances = s .instances; arcs = setSlot (s .arcs) j
 
 -- Lengths.
 
-values-length : (zs : List ℤ) (t : List ℕ) → length (encValues zs t) ≡ 8 * length zs + length t
+pub values-length : (zs : List ℤ) (t : List ℕ) → length (encValues zs t) ≡ 8 * length zs + length t
 unfolding encValues
 values-length [] t = omega arith
 values-length (z ∷ zs) t = let h = values-length zs t in omega arith
 
-key-length : (k : Key) (t u : List ℕ) → length t ≡ length u → length (encKey k t) ≡ length (encKey k u)
+pub key-length : (k : Key) (t u : List ℕ) → length t ≡ length u → length (encKey k t) ≡ length (encKey k u)
 unfolding encKey
 key-length k t u e = simp length-append (omega arith)
 
@@ -53,7 +53,7 @@ arcs-length (a ∷ xs) (suc j) i z =
     key-length (a .key) _ _
     (values-length (a .values) _ ∙ rw (arcs-length xs j i z) (sym (values-length (a .values) (encArcs xs []))))
 
-ins-length : (is : List Instance) (t u : List ℕ) → length t ≡ length u → length (encIns is t) ≡ length (encIns is u)
+pub ins-length : (is : List Instance) (t u : List ℕ) → length t ≡ length u → length (encIns is t) ≡ length (encIns is u)
 unfolding encIns
 ins-length [] t u e = e
 ins-length (i ∷ is) t u e = in-length i _ _ (ins-length is t u e)
@@ -92,7 +92,7 @@ ins-paste (i ∷ is) t s k n =
     let e : inLen i + insLen is + k ≡ inLen i + (insLen is + k) = omega arith in
     rw e (in-paste i (encIns is t) s (insLen is + k) n ∙ ap (encIn i) (ins-paste is t s k n))
 
-encode-paste : (s : Sheet) (j i : ℕ) (z : ℤ) → j < length (s .arcs) → All18 (s .arcs) → i < 18
+pub encode-paste : (s : Sheet) (j i : ℕ) (z : ℤ) → j < length (s .arcs) → All18 (s .arcs) → i < 18
     → paste (encode s) (12 + (insLen (s .instances) + (off (s .arcs) j + 8 * i))) (beBytes (ofZ w64 z)) 8 ≡ encode (setSheet s j i z)
 unfolding encode
 encode-paste s j i z h a g =
@@ -130,14 +130,14 @@ module _ (b : List ℕ) (bytes : Bytes b) where
       let y = part-length b bytes (p + 6 + pathLen b p) (typeLen b p) (omega arith) in
       omega (arith, h, x, y)
 
-  first-place : (f : ℕ) → frontStep b ≡ Next f → f ≡ 12 + insLen (insAt b (be32 b 4) 12)
+  pub first-place : (f : ℕ) → frontStep b ≡ Next f → f ≡ 12 + insLen (insAt b (be32 b 4) 12)
   unfolding frontStep
   first-place f e =
       let o = chain-next (headStep b) _ f e in
       ins-end (be32 b 4) 0 12 f (rw (head-next b (o .0) (o .1) .0) at (o .2))
 
   -- what a good sheet is
-  good-parts : (n m f : ℕ) → checkOf b ≡ Good n m f → (frontStep b ≡ Next f) × (n ≡ be32 b 4)
+  pub good-parts : (n m f : ℕ) → checkOf b ≡ Good n m f → (frontStep b ≡ Next f) × (n ≡ be32 b 4)
   unfolding checkOf
   good-parts n m f e = go (leb (length b) 16777216) (frontStep b) (backStep b (reach (frontStep b))) e
     where
@@ -152,7 +152,7 @@ module _ (b : List ℕ) (bytes : Bytes b) where
   unfolding decode
   good-decode n m f e = rw e
 
-  arcs-from : (m f : ℕ) → (n : ℕ) → checkOf b ≡ Good n m f → drop f b ≡ encArcs (arcsAt b m f) []
+  pub arcs-from : (m f : ℕ) → (n : ℕ) → checkOf b ≡ Good n m f → drop f b ≡ encArcs (arcsAt b m f) []
   unfolding checkOf
   arcs-from m f n e = go (leb (length b) 16777216) (frontStep b) refl (backStep b (reach (frontStep b))) refl e
     where

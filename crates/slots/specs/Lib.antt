@@ -1,1 +1,5 @@
 pub mod Slots
+pub mod Numbers
+pub mod Arcs
+pub mod Spelled
+pub mod Found
