@@ -35,10 +35,12 @@ are-eighteen j v zs l h =
     ext-getD least (eighteen j v) zs (n ∙ sym l)
     (λ i g. let k : i < 18 = omega arith in slots-at (λ (t : Slot). numeral (v t)) j i least k ∙ h i k)
 
+-- the arc of a slot
 arc-of : (j i : ℕ) → slotAt j i .arc ≡ j
 unfolding slotAt
 arc-of j i = refl
 
+-- values that are the same at one arc
 pub eighteen-same : (j : ℕ) (v w : Values) → ((t : Slot) → t .arc ≡ j → v t ≡ w t) → eighteen j v ≡ eighteen j w
 eighteen-same j v w h =
     are-eighteen j v (eighteen j w) (slots-length (λ (t : Slot). numeral (w t)) j)
@@ -61,6 +63,7 @@ fit-at [] i f h = absurd (omega arith)
 fit-at (z ∷ zs) zero f h = f .0
 fit-at (z ∷ zs) (suc i) f h = fit-at zs i (f .1) (omega arith)
 
+-- so the arcs are their own, with the values that stand there
 pub arcs-start : (f : From) (j : ℕ) (v : Values) (xs : List Arc) → ArcsOk f xs
     → ((t : Slot) (k : ℕ) → t .arc ≡ j + k → v t ≡ meant (getD (arcValues xs k) (slotNumber t) least)) → arcsWith j v xs ≡ xs
 unfolding arcsWith arcValues
@@ -74,16 +77,19 @@ arcs-start f j v (a ∷ xs) o h =
 
 -- Lengths and places.
 
+-- as many arcs
 pub length-with : (j : ℕ) (v : Values) (xs : List Arc) → length (arcsWith j v xs) ≡ length xs
 unfolding arcsWith
 length-with j v [] = refl
 length-with j v (a ∷ xs) = ap suc (length-with (suc j) v xs)
 
+-- of eighteen values each
 pub all-with : (j : ℕ) (v : Values) (xs : List Arc) → All18 (arcsWith j v xs)
 unfolding arcsWith
 all-with j v [] = tt
 all-with j v (a ∷ xs) = (slots-length (λ (t : Slot). numeral (v t)) j, all-with (suc j) v xs)
 
+-- in as many bytes
 pub bytes-with : (j : ℕ) (v : Values) (xs : List Arc) → All18 xs → length (encArcs (arcsWith j v xs) []) ≡ length (encArcs xs [])
 unfolding arcsWith encArcs
 bytes-with j v [] o = refl
@@ -94,6 +100,7 @@ bytes-with j v (a ∷ xs) o =
     let w = bytes-with (suc j) v xs (o .1) in
     key-length (a .key) _ _ (omega (arith, n, l, m, w, o .0))
 
+-- at the same places
 pub off-with : (k : ℕ) (v : Values) (xs : List Arc) (j : ℕ) → All18 xs → off (arcsWith k v xs) j ≡ off xs j
 unfolding arcsWith off
 off-with k v [] j o = refl
@@ -105,15 +112,17 @@ off-with k v (a ∷ xs) (suc j) o =
 
 -- One slot set.
 
--- a slot of another arc, of another number
+-- slots of one arc are the same by their numbers
 same-at : (j i k : ℕ) → i < 18 → k < 18 → sameSlot (slotAt j k) (slotAt j i) ≡ eqb k i
 unfolding sameSlot
 same-at j i k h g = rw (slot-number j k g, slot-number j i h, arc-of j k, arc-of j i, eq-eqb j j refl)
 
+-- other arcs keep their values
 pub put-other : (v : Values) (u : Slot) (x : Value) (t : Slot) → (t .arc ≡ u .arc → ⊥) → put v u x t ≡ v t
 unfolding put sameSlot
 put-other v u x t h = rw (ne-eqb (t .arc) (u .arc) h)
 
+-- within the arc's own eighteen
 set-eighteen : (j i : ℕ) (v : Values) (x : Value) → i < 18 → eighteen j (put v (slotAt j i) x) ≡ set (eighteen j v) i (numeral x)
 unfolding put
 set-eighteen j i v x h =
@@ -129,6 +138,7 @@ set-eighteen j i v x h =
     by k g false e =
         sym (getD-set-other (eighteen j v) i k (numeral x) least (eqb-false k i e) ∙ slots-at (λ (t : Slot). numeral (v t)) j k least g)
 
+-- and within all arcs
 pub set-with : (k j i : ℕ) (v : Values) (x : Value) (xs : List Arc) → j < length xs → i < 18
     → setSlot (arcsWith k v xs) j i (numeral x) ≡ arcsWith k (put v (slotAt (k + j) i) x) xs
 unfolding arcsWith setSlot

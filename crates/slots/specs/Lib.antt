@@ -3,3 +3,4 @@ pub mod Numbers
 pub mod Arcs
 pub mod Spelled
 pub mod Found
+pub mod Shapes

@@ -22,6 +22,7 @@ use Rattle.slots.specs.Slots.{meant, numeral, wordOf, rowNumber, cornerN
 
 -- The number of a slot.
 
+-- a row, a corner and its number, both ways
 row-number : (q : ℕ) → q < 6 → rowNumber (getD (r01 ∷ r10 ∷ r0z ∷ rz1 ∷ r1z ∷ rz0 ∷ []) q rz0) ≡ q
 unfolding rowNumber
 row-number zero h = refl
@@ -95,6 +96,7 @@ unfoldable count : ℕ → ℕ → List ℕ
 count a zero = []
 count a (suc n) = a ∷ count (suc a) n
 
+-- what is made of them, one by one
 count-at : {A : Type 0} (g : ℕ → A) (a n i : ℕ) (d : A) → i < n → getD (map g (count a n)) i d ≡ g (a + i)
 unfolding count
 count-at g a zero i d h = absurd (omega arith)
@@ -106,6 +108,7 @@ pub slots-at : {A : Type 0} (g : Slot → A) (j i : ℕ) (d : A) → i < 18 → 
 unfolding arcSlots each count slotAt
 slots-at g j i d h = rw zero-add at (count-at (λ k. g (slotAt j k)) 0 18 i d h)
 
+-- eighteen of them
 pub slots-length : {A : Type 0} (g : Slot → A) (j : ℕ) → length (map g (arcSlots j)) ≡ 18
 unfolding arcSlots each
 slots-length g j = refl

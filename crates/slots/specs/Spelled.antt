@@ -41,6 +41,7 @@ module _ (b : List ℕ) (bytes : Bytes b) (n m f : ℕ) (good : checkOf b ≡ Go
   pub sound : WellFormed (sheetAt b n m f) × (encode (sheetAt b n m f) ≡ b)
   sound = decode-sound b (sheetAt b n m f) bytes (good-decode b bytes n m f good)
 
+  -- each arc has its eighteen values
   all : All18 (arcsAt b m f)
   all = all18 none (arcsAt b m f) (sound .0 .arcs)
 
@@ -64,6 +65,7 @@ module _ (b : List ℕ) (bytes : Bytes b) (n m f : ℕ) (good : checkOf b ≡ Go
   pub room-all : (j : ℕ) → j < m → valuesAt b (place b j f) + 144 ≤ length b
   room-all j h = arc-there b j m f h (sheet-good b n m f good .arcs) .1
 
+  -- and so each of them, whatever the values
   pub room : (v : Values) (j i : ℕ) → j < m → i < 18 → valuesAt b (place b j f) + 8 * i + 8 ≤ length (spelled (sheetAt b n m f) v)
   room v j i h g = let l = length-spelled v in let r = room-all j h in omega (arith, l, r)
 
