@@ -1,2 +1,3 @@
 pub mod Amounts
 pub mod Turns
+pub mod Laws

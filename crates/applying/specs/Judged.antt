@@ -9,13 +9,10 @@ use native.Mathlib.Omega.{arith}
 use lib.Dec.{eqb, leb}
 use lib.ListN.{length, getElem?}
 use Rattle.classes.specs.Choice.{pick, and, or}
+use Rattle.amounts.specs.Laws.{firstOf}
 use Rattle.history.specs.Events.{Value, Supply, nothing, Held, holds, fails, failsWith, step, final, anyOf, when, orElse, stuck, judge}
 use Rattle.history.specs.EventLaws.{any-cong}
 use Rattle.history.specs.Sheet.{Instance, Key, Records, Slot, Values, Entry, Cell, each, matches, applies, addresses, lacks, given, ifArc, giving, amount, rows, entryEvent, below, arcSlots, slotsOf}
-
--- the least of 14, 15 and 16 that holds, or 0
-unfoldable pub firstOf : Bool → Bool → Bool → ℕ
-firstOf a b c = pick a 14 (pick b 15 (pick c 16 0))
 
 -- 0 is no number
 unfoldable pub numbered : ℕ → Option ℕ
@@ -141,7 +138,6 @@ unfoldable pub arcIs : Records → (Key → Bool) → ℕ → Bool
 arcIs records f j = keyIs f (getElem? (records .arcs) j)
 
 module _ (records : Records) {Word : Type 0} where
-
   -- in the instance with this path some addressed arc fails with this number
   unfoldable pub failsAt : List ℕ → Entry Word → ℕ → Values → Bool
   failsAt path e n now = anyOf (λ (j : ℕ). and (arcIs records (matches path e) j) (arcFails e n now j)) (below (length (records .arcs)))
