@@ -58,7 +58,7 @@ nth-words (v ∷ vs) (suc k) = nth-words vs k
 -- where the words of value k stand
 words-at : (vs : List Value) (k : ℕ) → k < 6
     → (getD (valuesRow vs 6) (3 * k) 0 ≡ amountWord (getD vs k nothing .min)) × (getD (valuesRow vs 6) (3 * k + 1) 0 ≡ amountWord (getD vs k nothing .typ))
-        × (getD (valuesRow vs 6) (3 * k + 2) 0 ≡ amountWord (getD vs k nothing .max))
+    × (getD (valuesRow vs 6) (3 * k + 2) 0 ≡ amountWord (getD vs k nothing .max))
 unfolding valuesRow
 words-at vs zero h = (refl, refl, refl)
 words-at vs (suc zero) h = (refl, refl, refl)
