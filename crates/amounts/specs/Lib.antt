@@ -1,3 +1,4 @@
 pub mod Amounts
 pub mod Turns
 pub mod Laws
+pub mod Expand

@@ -29,18 +29,18 @@ unfoldable pub writtenOf : (ℕ → Bool) → (ℕ → List ℕ → List ℕ) �
 writtenOf hit write out zero = out
 writtenOf hit write out (suc k) = pick (hit k) (write k (writtenOf hit write out k)) (writtenOf hit write out k)
 
+-- DEVICE, the entry h of the text: the arc at q is one that it means in the instance at p
+unfoldable pub deviceHit : (b text : List ℕ) (slash : Bool) (h : Entry) → ℕ → ℕ → Bool
+deviceHit b text slash h p q =
+    and (eqb (keyAt b q .kind) 1)
+    (pick (eqb (h .to1) 0) (oneBelow (pathAt b p) (keyAt b q .second))
+    (sameName (keyAt b q .second) (full (pathAt b p) (canon slash (partOf text (h .from1) (h .to1))))))
+
 -- the entry h of the text, with its expanded list, on a sheet of n instances and m arcs from f on
 module _ (b text : List ℕ) (slash : Bool) (n m f : ℕ) (h : Entry) (rows : List (List ℕ)) where
   -- INCREMENT: its letter is I
   abbrev pub adds : Bool
   adds = eqb (h .group) 73
-
-  -- DEVICE: the arc at q is one that it means in the instance at p
-  unfoldable pub deviceHit : ℕ → ℕ → Bool
-  deviceHit p q =
-      and (eqb (keyAt b q .kind) 1)
-      (pick (eqb (h .to1) 0) (oneBelow (pathAt b p) (keyAt b q .second))
-      (sameName (keyAt b q .second) (full (pathAt b p) (canon slash (partOf text (h .from1) (h .to1))))))
 
   -- any other: its arc in the instance at p
   unfoldable pub arcOf : ℕ → Found
@@ -65,11 +65,11 @@ module _ (b text : List ℕ) (slash : Bool) (n m f : ℕ) (h : Entry) (rows : Li
 
   unfoldable pub deviceRefusal : List ℕ → ℕ → ℕ
   deviceRefusal out p =
-      pick (someOf (λ k. deviceHit p (place b k f)) m)
-      (leastOf (λ k. deviceHit p (place b k f)) (λ k. refusalOn out (place b k f)) m) 14
+      pick (someOf (λ k. deviceHit b text slash h p (place b k f)) m)
+      (leastOf (λ k. deviceHit b text slash h p (place b k f)) (λ k. refusalOn out (place b k f)) m) 14
 
   unfoldable pub deviceWritten : List ℕ → ℕ → List ℕ
-  deviceWritten out p = writtenOf (λ k. deviceHit p (place b k f)) (λ k. writtenOn (place b k f)) out m
+  deviceWritten out p = writtenOf (λ k. deviceHit b text slash h p (place b k f)) (λ k. writtenOn (place b k f)) out m
 
   -- in the instance at p
   unfoldable pub refusalIn : List ℕ → ℕ → ℕ

@@ -3,27 +3,16 @@
 use Prim.Native.Nat.{ℕ}
 use mathlib.Core.Bool.{Bool}
 use mathlib.Core.List.{List, [], _∷_, map}
-use mathlib.Core.Option.{Option, none, some}
+use mathlib.Core.Option.{none, some}
 use lib.Dec.{eqb}
-use lib.IntN.{ℤ}
 use lib.ListN.{take, drop}
 use Rattle.classes.specs.Choice.{pick, and}
 use Rattle.names.specs.Name.{canon, partOf}
 use Rattle.sheetform.specs.Form.{oneEnd}
-use Rattle.grammar.specs.declared.Amount.{Amount}
-use Rattle.grammar.specs.declared.Amount.the-variants.{Absent, Time}
-use Rattle.grammar.specs.declared.Value.{Value}
 use Rattle.grammar.specs.declared.Cell as read
 use Rattle.grammar.specs.Meaning.{Item}
-use Rattle.history.specs.Sheet.{Triple, Group, absolute, increment, check, End, Entry, Part, at, every, Cell, device}
-
--- 'each of the three numbers is supplied or absent'
-unfoldable pub amountOf : Amount → Option ℤ
-amountOf Absent = none
-amountOf (Time z) = some z
-
-unfoldable pub tripleOf : Value → Triple
-tripleOf v = record { low = amountOf (v .min); middle = amountOf (v .typ); high = amountOf (v .max) }
+use Rattle.amounts.specs.Expand.{tripleOf}
+use Rattle.history.specs.Sheet.{Group, absolute, increment, check, End, Entry, Part, at, every, Cell, device}
 
 -- 'group (A, I or T)': the letter's byte
 unfoldable pub groupOf : ℕ → Group

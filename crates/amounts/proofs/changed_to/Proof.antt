@@ -1,6 +1,5 @@
 -- `amounts::changed_to` meets its contract.
 -- Assumes nothing.
-use Prim.Native.Nat.{_-_}
 use borrow.Author.Needs.{needs}
 use Rattle.amounts.specs.Amounts.{changed}
 use Rattle.amounts.proofs.changed_to.Statement.{statement}

@@ -1,6 +1,5 @@
 -- `amounts::choice_of` meets its contract.
 -- Assumes nothing.
-use Prim.Native.Nat.{_-_}
 use borrow.Author.Tests.{eq-eqb, ne-eqb}
 use Rattle.amounts.specs.Amounts.{choice, delayChoice}
 use Rattle.amounts.proofs.choice_of.Statement.{statement}

@@ -1,6 +1,5 @@
 -- `amounts::expand` meets its contract.
 -- Assumes nothing.
-use Prim.Native.Nat.{_-_}
 use mathlib.Core.Path.{_≡_, sym, _∙_, ap}
 use mathlib.Core.List.{map}
 use lib.ListN.{length}

@@ -1,6 +1,5 @@
 -- `amounts::is_near` meets its contract.
 -- Assumes nothing.
-use Prim.Native.Nat.{_-_}
 use borrow.Author.Tests.{le-leb, lt-leb}
 use Rattle.amounts.specs.Amounts.{near}
 use Rattle.amounts.proofs.is_near.Statement.{statement}

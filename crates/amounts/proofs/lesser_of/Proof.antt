@@ -1,6 +1,5 @@
 -- `amounts::lesser_of` meets its contract.
 -- Assumes nothing.
-use Prim.Native.Nat.{_-_}
 use borrow.Author.Tests.{eq-eqb, ne-eqb, le-leb, lt-leb}
 use Rattle.amounts.specs.Amounts.{lesser}
 use Rattle.amounts.proofs.lesser_of.Statement.{statement}

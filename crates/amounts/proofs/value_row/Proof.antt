@@ -1,6 +1,5 @@
 -- `amounts::value_row` meets its contract.
 -- Assumes nothing.
-use Prim.Native.Nat.{_-_}
 use borrow.Author.Needs.{needs}
 use borrow.Author.Tests.{le-leb, lt-leb}
 use Rattle.amounts.specs.Amounts.{valueRow}

@@ -1,6 +1,6 @@
 -- `amounts::write_value` meets its contract.
 -- Assumes nothing.
-use Prim.Native.Nat.{ℕ, _-_}
+use Prim.Native.Nat.{ℕ}
 use mathlib.Core.Path.{_∙_, ap}
 use lib.Seq.{paste}
 use denote.Ref.{now}
