@@ -36,17 +36,16 @@ deviceHit b text slash h p q =
     (pick (eqb (h .to1) 0) (oneBelow (pathAt b p) (keyAt b q .second))
     (sameName (keyAt b q .second) (full (pathAt b p) (canon slash (partOf text (h .from1) (h .to1))))))
 
+-- any other: its arc in the instance at p, among m arcs from f on
+unfoldable pub arcOf : (b text : List ℕ) (slash : Bool) (m f : ℕ) (h : Entry) → ℕ → Found
+arcOf b text slash m f h p =
+    findArc b (wanted slash (h .kind) (h .edge1) (h .edge2) (pathAt b p) (partOf text (h .from1) (h .to1)) (partOf text (h .from2) (h .to2))) m f
+
 -- the entry h of the text, with its expanded list, on a sheet of n instances and m arcs from f on
 module _ (b text : List ℕ) (slash : Bool) (n m f : ℕ) (h : Entry) (rows : List (List ℕ)) where
   -- INCREMENT: its letter is I
   abbrev pub adds : Bool
   adds = eqb (h .group) 73
-
-  -- any other: its arc in the instance at p
-  unfoldable pub arcOf : ℕ → Found
-  arcOf p =
-      findArc b (wanted slash (h .kind) (h .edge1) (h .edge2) (pathAt b p) (partOf text (h .from1) (h .to1))
-      (partOf text (h .from2) (h .to2))) m f
 
   -- the refusal at an arc, and the sheet with the arc's values changed
   abbrev pub refusalOn : List ℕ → ℕ → ℕ
@@ -73,10 +72,10 @@ module _ (b text : List ℕ) (slash : Bool) (n m f : ℕ) (h : Entry) (rows : Li
 
   -- in the instance at p
   unfoldable pub refusalIn : List ℕ → ℕ → ℕ
-  refusalIn out p = pick (eqb (h .kind) 4) (deviceRefusal out p) (foundRefusal out (arcOf p))
+  refusalIn out p = pick (eqb (h .kind) 4) (deviceRefusal out p) (foundRefusal out (arcOf b text slash m f h p))
 
   unfoldable pub writtenIn : List ℕ → ℕ → List ℕ
-  writtenIn out p = pick (eqb (h .kind) 4) (deviceWritten out p) (foundWritten out (arcOf p))
+  writtenIn out p = pick (eqb (h .kind) 4) (deviceWritten out p) (foundWritten out (arcOf b text slash m f h p))
 
   -- in every instance of a type
   abbrev pub instanceAt : ℕ → ℕ
@@ -90,3 +89,10 @@ module _ (b text : List ℕ) (slash : Bool) (n m f : ℕ) (h : Entry) (rows : Li
 
   unfoldable pub writtenEvery : List ℕ → List ℕ → List ℕ
   writtenEvery out type = writtenOf (ofType type) (λ k o. writtenIn o (instanceAt k)) out n
+
+  -- first decide, then write: an entry that is refused writes nothing
+  unfoldable pub appliedIn : List ℕ → ℕ → List ℕ
+  appliedIn out p = pick (eqb (refusalIn out p) 0) (writtenIn out p) out
+
+  unfoldable pub appliedEvery : List ℕ → List ℕ → List ℕ
+  appliedEvery out type = pick (eqb (refusalEvery out type) 0) (writtenEvery out type) out
