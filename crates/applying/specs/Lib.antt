@@ -2,3 +2,4 @@ pub mod Says
 pub mod Judged
 pub mod Bytes
 pub mod Ready
+pub mod Rows
