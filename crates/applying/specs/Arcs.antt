@@ -3,23 +3,28 @@
 use Prim.Native.Nat.{ℕ, zero, suc, _+_, _*_, _≤_, _<_}
 use mathlib.Core.Path.{_≡_, refl, sym, ap, _∙_}
 use mathlib.Core.Bool.{Bool, true, false}
-use mathlib.Core.List.{List, [], _∷_, _++_}
+use mathlib.Core.List.{List}
+use mathlib.Core.Option.{none, some}
 use native.Mathlib.Omega.{arith}
 use lib.Dec.{eqb, leb, ltb}
+use lib.IntN.{natAbs, _+ℤ_}
+use lib.Seq.{paste}
+use borrow.Author.Tests.{ltb-true, ltb-false, leb-true, eqb-true, eqb-false, lt-ltb, le-ltb}
 use Rattle.classes.specs.Choice.{pick, and, or}
-use Rattle.wire.specs.Wire.{Bytes, be64}
+use Rattle.wire.specs.Wire.{Bytes, be64, beBytes}
 use Rattle.sheetform.specs.Form.{valuesAt, checkOf}
 use Rattle.sheetform.specs.declared.SheetCheck.the-variants.{Good}
 use Rattle.sheetlaws.specs.Sheet.{place}
-use Rattle.history.specs.Events.{Value, failsWith, step, anyOf}
+use Rattle.history.specs.Events.{limit, Value, holds, fails, summed, step, final, failsWith, anyOf}
 use Rattle.history.specs.Ranges.{InRange}
 use Rattle.history.specs.Sheet as h
-use Rattle.history.specs.Sheet.{Slot, Values, Entry, each, amount, below, arcSlots}
-use Rattle.slots.specs.Slots.{wordOf, slotAt, spelled, sheetAt}
-use Rattle.slots.specs.Spelled.{word-get}
-use Rattle.amounts.specs.Amounts.{given, refusal, arcRefusal}
-use Rattle.amounts.specs.Laws.{firstOf, lesser-first, heldRefusal, held-first, isAdd, refusal-is}
-use Rattle.applying.specs.Judged.{any-below, supply, arcFails}
+use Rattle.history.specs.Sheet.{Slot, Values, Group, absolute, increment, check, Entry, each, amount, giving, below, arcSlots}
+use Rattle.slots.specs.Slots.{wordOf, slotNumber, slotAt, sameSlot, put, spelled, sheetAt}
+use Rattle.slots.specs.Numbers.{slot-number, slot-at, slot-below, same-exactly}
+use Rattle.slots.specs.Spelled.{spelled-same, word-set, word-get}
+use Rattle.amounts.specs.Amounts.{empty, lesser, given, refusal, changed, arcRefusal, valueWritten, arcWritten}
+use Rattle.amounts.specs.Laws.{firstOf, lesser-first, heldRefusal, held-first, isAdd, word-is-empty, given-none, refusal-is, changed-is}
+use Rattle.applying.specs.Judged.{any-below, supply, arcFails, changedAt}
 
 -- the number that an entry has for a slot; none where it is absent
 abbrev pub number : {Word : Type 0} → Entry Word → Slot → Value
@@ -40,6 +45,120 @@ by-number g j = refl
 none-yet : (F G : ℕ → Bool) → 0 ≡ firstOf false (anyOf F (below 0)) (anyOf G (below 0))
 unfolding firstOf anyOf below
 none-yet F G = refl
+
+-- neither of two refusals
+lesser-zero : (a c : ℕ) → lesser a c ≡ 0 → (a ≡ 0) × (c ≡ 0)
+unfolding lesser
+lesser-zero a c = by (eqb a 0) refl (eqb c 0) refl (leb a c)
+  where
+    by : (y : Bool) → eqb a 0 ≡ y → (z : Bool) → eqb c 0 ≡ z → (w : Bool) → pick y c (pick z a (pick w a c)) ≡ 0 → (a ≡ 0) × (c ≡ 0)
+    by true p z q w r = (eqb-true a 0 p, r)
+    by false p true q w r = (r, eqb-true c 0 q)
+    by false p false q true r = absurd (eqb-false a 0 p r)
+    by false p false q false r = absurd (eqb-false c 0 q r)
+
+-- nothing is refused among the first i, and so not at any of them
+each-zero : (out : List ℕ) (start : ℕ) (rows : List (List ℕ)) (add : Bool) (i k : ℕ) → k < i → arcRefusal out start rows add i ≡ 0
+    → refusal add (be64 out (start + 8 * k)) (given rows k) ≡ 0
+unfolding arcRefusal
+each-zero out start rows add zero k l z = absurd (omega arith)
+each-zero out start rows add (suc i) k l z =
+    let both : (arcRefusal out start rows add i ≡ 0) × (refusal add (be64 out (start + 8 * i)) (given rows i) ≡ 0) = lesser-zero _ _ z in
+    by (eqb k i) refl (both .1) (λ g. each-zero out start rows add i k g (both .0))
+  where
+    by : (y : Bool) → eqb k i ≡ y → refusal add (be64 out (start + 8 * i)) (given rows i) ≡ 0
+        → (k < i → refusal add (be64 out (start + 8 * k)) (given rows k) ≡ 0) → refusal add (be64 out (start + 8 * k)) (given rows k) ≡ 0
+    by true p last before = rw (eqb-true k i p) last
+    by false p last before = let q = eqb-false k i p in before (omega arith)
+
+-- a step that does not fail keeps the range
+held-range : (g : Group) (v w : Value) → InRange v → InRange w → heldRefusal (step v (giving g w)) ≡ 0 → InRange (final (step v (giving g w)))
+unfolding giving step summed final heldRefusal
+held-range absolute v none r q z = r
+held-range increment v none r q z = r
+held-range check v none r q z = r
+held-range absolute v (some t) r q z = q
+held-range check v (some t) r q z = q
+held-range increment none (some t) r q z = absurd (omega arith)
+held-range increment (some u) (some t) r q z = by (leb (natAbs (u +ℤ t)) limit) refl z
+  where
+    by : (y : Bool) → leb (natAbs (u +ℤ t)) limit ≡ y → heldRefusal (pick y (holds (some (u +ℤ t))) (fails 16)) ≡ 0
+        → InRange (final (pick y (holds (some (u +ℤ t))) (fails 16)))
+    by true p k = leb-true (natAbs (u +ℤ t)) limit p
+    by false p k = absurd (omega arith)
+
+-- a test for numbers below i, and i
+one-more : (k i : ℕ) → (k ≡ i → ⊥) → ltb k (suc i) ≡ ltb k i
+one-more k i d = by (ltb k i) refl
+  where
+    by : (y : Bool) → ltb k i ≡ y → ltb k (suc i) ≡ y
+    by true p = let q = ltb-true k i p in lt-ltb k (suc i) (omega arith)
+    by false p = let q = ltb-false k i p in le-ltb k (suc i) (omega arith)
+
+no-bool : _≡_ {A = Bool} false true → ⊥
+no-bool p = let z : _≡_ {A = ℕ} 0 1 = cc in omega arith
+
+-- The values with the first slots of an arc changed.
+
+module _ {Word : Type 0} (e : Entry Word) (j : ℕ) (now : Values) where
+  -- those numbered below i
+  unfoldable partly : ℕ → Values
+  partly i t = pick (and (eqb (t .arc) j) (ltb (slotNumber t) i)) (final (step (now t) (supply e t))) (now t)
+
+  partly-none : (t : Slot) → partly 0 t ≡ now t
+  unfolding partly
+  partly-none t = rw (le-ltb (slotNumber t) 0 (omega arith)) (by (eqb (t .arc) j))
+    where
+      by : (y : Bool) → pick (and y false) (final (step (now t) (supply e t))) (now t) ≡ now t
+      by true = refl
+      by false = refl
+
+  -- all eighteen
+  partly-all : (t : Slot) → partly 18 t ≡ changedAt e (λ k. eqb k j) now t
+  unfolding partly changedAt
+  partly-all t = rw (lt-ltb (slotNumber t) 18 (slot-below t)) (by (eqb (t .arc) j))
+    where
+      by : (y : Bool) → pick (and y true) (final (step (now t) (supply e t))) (now t) ≡ pick y (final (step (now t) (supply e t))) (now t)
+      by true = refl
+      by false = refl
+
+  -- slot i is as it was
+  partly-here : (i : ℕ) → i < 18 → partly i (slotAt j i) ≡ now (slotAt j i)
+  unfolding partly
+  partly-here i l = rw (slot-number j i l, le-ltb i i (omega arith)) (by (eqb (slotAt j i .arc) j))
+    where
+      by : (y : Bool) → pick (and y false) (final (step (now (slotAt j i)) (supply e (slotAt j i)))) (now (slotAt j i)) ≡ now (slotAt j i)
+      by true = refl
+      by false = refl
+
+  -- and is changed next
+  partly-next : (i : ℕ) → i < 18 → (t : Slot)
+      → put (partly i) (slotAt j i) (final (step (now (slotAt j i)) (supply e (slotAt j i)))) t ≡ partly (suc i) t
+  unfolding partly put sameSlot slotAt
+  partly-next i l t = rw (slot-number j i l) (by (eqb (t .arc) j) refl (eqb (slotNumber t) i) refl)
+    where
+      after : Slot → Value
+      after u = final (step (now u) (supply e u))
+
+      by : (y : Bool) → eqb (t .arc) j ≡ y → (z : Bool) → eqb (slotNumber t) i ≡ z
+          → pick (and y z) (after (slotAt j i)) (pick (and y (ltb (slotNumber t) i)) (after t) (now t))
+          ≡ pick (and y (ltb (slotNumber t) (suc i))) (after t) (now t)
+      by false p z q = refl
+      by true p true q =
+          let k = eqb-true (slotNumber t) i q in
+          let a = eqb-true (t .arc) j p in
+          let s : slotAt j i ≡ t = ap (λ g. slotAt g i) (sym a) ∙ ap (slotAt (t .arc)) (sym k) ∙ slot-at t in
+          rw (s, lt-ltb (slotNumber t) (suc i) (omega arith))
+      by true p false q = rw (one-more (slotNumber t) i (eqb-false (slotNumber t) i q))
+
+-- putting in what is there changes nothing
+put-same : (v : Values) (u t : Slot) → put v u (v u) t ≡ v t
+unfolding put
+put-same v u t = by (sameSlot t u) refl
+  where
+    by : (y : Bool) → sameSlot t u ≡ y → pick y (v u) (v t) ≡ v t
+    by true p = ap v (sym (same-exactly t u .0 p))
+    by false p = refl
 
 module _ (b : List ℕ) (bytes : Bytes b) (n m f : ℕ) (good : checkOf b ≡ Good n m f) {Word : Type 0} (e : Entry Word) (rows : List (List ℕ)) (add : Bool)
     (x : Expanded e rows add) where
@@ -83,3 +202,78 @@ module _ (b : List ℕ) (bytes : Bytes b) (n m f : ℕ) (good : checkOf b ≡ Go
     arc-refusal j l =
         rw (by-number (λ (t : Slot). failsWith 15 (step (now t) (supply e t))) j, by-number (λ (t : Slot). failsWith 16 (step (now t) (supply e t))) j)
         (slots-refusal j 18 l (omega arith))
+
+    -- slot i of an arc that refuses nothing
+    slot-range : (j i : ℕ) → j < m → i < 18 → refuses (spelled (sheetAt b n m f) now) j ≡ 0
+        → InRange (final (step (now (slotAt j i)) (supply e (slotAt j i))))
+    unfolding supply
+    slot-range j i l g z =
+        let u = slotAt j i in
+        let r : heldRefusal (step (now u) (giving (e .group) (number e u))) ≡ 0 = sym (slot-refusal j i l g) ∙ each-zero _ (from j) rows add 18 i g z in
+        held-range (e .group) (now u) (number e u) (fine u) (x .times u) r
+
+    -- and so any slot of it
+    change-range : (t : Slot) → t .arc < m → refuses (spelled (sheetAt b n m f) now) (t .arc) ≡ 0 → InRange (final (step (now t) (supply e t)))
+    change-range t l z = rw (slot-at t) at (slot-range (t .arc) (slotNumber t) l (slot-below t) z)
+
+    partly-range : (j i : ℕ) → j < m → refuses (spelled (sheetAt b n m f) now) j ≡ 0 → (t : Slot) → InRange (partly e j now i t)
+    unfolding partly
+    partly-range j i l z t = by (eqb (t .arc) j) refl (ltb (slotNumber t) i)
+      where
+        by : (y : Bool) → eqb (t .arc) j ≡ y → (w : Bool) → InRange (pick (and y w) (final (step (now t) (supply e t))) (now t))
+        by false p w = fine t
+        by true p false = fine t
+        by true p true = let a = eqb-true (t .arc) j p in change-range t (omega arith) (rw a z)
+
+    -- the values of an arc that refuses nothing stay in range
+    pub arc-in-range : (j : ℕ) → j < m → arcRefusal (spelled (sheetAt b n m f) now) (valuesAt b (place b j f)) rows add 18 ≡ 0
+        → (t : Slot) → InRange (changedAt e (λ k. eqb k j) now t)
+    arc-in-range j l z t = rw (partly-all e j now t) at (partly-range j 18 l z t)
+
+    -- one value written
+    slot-written : (j i : ℕ) → j < m → i < 18 → refuses (spelled (sheetAt b n m f) now) j ≡ 0
+        → valueWritten (spelled (sheetAt b n m f) (partly e j now i)) (from j + 8 * i) (given rows i) add
+        ≡ spelled (sheetAt b n m f) (put (partly e j now i) (slotAt j i) (final (step (now (slotAt j i)) (supply e (slotAt j i)))))
+    unfolding valueWritten supply
+    slot-written j i l g z = rw (word-is j i g) (by (eqb (wordOf (number e u)) empty) refl)
+      where
+        u : Slot
+        u = slotAt j i
+
+        v : Values
+        v = partly e j now i
+
+        r : refusal (isAdd (e .group)) (wordOf (now u)) (wordOf (number e u)) ≡ 0
+        r =
+            rw (word-get b bytes n m f good now fine j i l g, word-is j i g, x .adds)
+            at (each-zero (spelled (sheetAt b n m f) now) (from j) rows add 18 i g z)
+
+        by : (y : Bool) → eqb (wordOf (number e u)) empty ≡ y
+            → pick y (spelled (sheetAt b n m f) v)
+            (paste (spelled (sheetAt b n m f) v) (from j + 8 * i) (beBytes (changed add (be64 (spelled (sheetAt b n m f) v) (from j + 8 * i)) (wordOf (number e u)))) 8)
+            ≡ spelled (sheetAt b n m f) (put v u (final (step (now u) (giving (e .group) (number e u)))))
+        by true p =
+            let a : number e u ≡ none = word-is-empty (number e u) (x .times u) .0 p in
+            rw (a, given-none (e .group) (now u), ← partly-here e j now i g)
+            (sym (spelled-same b bytes n m f good (put v u (v u)) v (λ t k. put-same v u t)))
+        by false p =
+            let a : number e u ≡ none → ⊥ = λ q. no-bool (sym p ∙ word-is-empty (number e u) (x .times u) .1 q) in
+            rw (word-get b bytes n m f good v (partly-range j i l z) j i l g, partly-here e j now i g, x .adds,
+            changed-is (e .group) (now u) (number e u) (fine u) (x .times u) a r)
+            (word-set b bytes n m f good v j i (final (step (now u) (giving (e .group) (number e u)))) l g)
+
+    slots-written : (j i : ℕ) → j < m → i ≤ 18 → refuses (spelled (sheetAt b n m f) now) j ≡ 0
+        → arcWritten (spelled (sheetAt b n m f) now) (from j) rows add i ≡ spelled (sheetAt b n m f) (partly e j now i)
+    unfolding arcWritten
+    slots-written j zero l g z = sym (spelled-same b bytes n m f good (partly e j now 0) now (λ t k. partly-none e j now t))
+    slots-written j (suc i) l g z =
+        rw (slots-written j i l (omega arith) z) (slot-written j i l (omega arith) z
+        ∙ spelled-same b bytes n m f good (put (partly e j now i) (slotAt j i) (final (step (now (slotAt j i)) (supply e (slotAt j i)))))
+        (partly e j now (suc i)) (λ t k. partly-next e j now i (omega arith) t))
+
+    -- the arc's bytes, written, spell the values with the arc's changed
+    pub arc-written : (j : ℕ) → j < m → arcRefusal (spelled (sheetAt b n m f) now) (valuesAt b (place b j f)) rows add 18 ≡ 0
+        → arcWritten (spelled (sheetAt b n m f) now) (valuesAt b (place b j f)) rows add 18
+        ≡ spelled (sheetAt b n m f) (changedAt e (λ k. eqb k j) now)
+    arc-written j l z =
+        slots-written j 18 l (omega arith) z ∙ spelled-same b bytes n m f good (partly e j now 18) _ (λ t k. partly-all e j now t)
