@@ -16,6 +16,7 @@ use Rattle.sheetform.specs.Form.{valuesAt, checkOf}
 use Rattle.sheetform.specs.declared.SheetCheck.the-variants.{Good}
 use Rattle.sheetlaws.specs.Sheet.{place}
 use Rattle.history.specs.Events.{limit, Value, holds, fails, summed, step, final, failsWith, anyOf}
+use Rattle.history.specs.EventLaws.{any-cong}
 use Rattle.history.specs.Ranges.{InRange}
 use Rattle.history.specs.Sheet as h
 use Rattle.history.specs.Sheet.{Slot, Values, Group, absolute, increment, check, Entry, each, amount, giving, below, arcSlots}
@@ -25,6 +26,7 @@ use Rattle.slots.specs.Spelled.{spelled-same, word-set, word-get}
 use Rattle.amounts.specs.Amounts.{empty, lesser, given, refusal, changed, arcRefusal, valueWritten, arcWritten}
 use Rattle.amounts.specs.Laws.{firstOf, lesser-first, heldRefusal, held-first, isAdd, word-is-empty, given-none, refusal-is, changed-is}
 use Rattle.applying.specs.Judged.{any-below, supply, arcFails, changedAt}
+use Rattle.applying.specs.Bytes.{leastOf, writtenOf}
 
 -- the number that an entry has for a slot; none where it is absent
 abbrev pub number : {Word : Type 0} → Entry Word → Slot → Value
@@ -160,6 +162,80 @@ put-same v u t = by (sameSlot t u) refl
     by true p = ap v (sym (same-exactly t u .0 p))
     by false p = refl
 
+-- the least refusal is none, and so is that of each thing that passes the test
+least-zero : (hit : ℕ → Bool) (r : ℕ → ℕ) (k j : ℕ) → j < k → hit j ≡ true → leastOf hit r k ≡ 0 → r j ≡ 0
+unfolding leastOf
+least-zero hit r zero j l p z = absurd (omega arith)
+least-zero hit r (suc k) j l p z = by (eqb j k) refl (hit k) refl z (λ g w. least-zero hit r k j g p w)
+  where
+    by : (y : Bool) → eqb j k ≡ y → (c : Bool) → hit k ≡ c → pick c (lesser (leastOf hit r k) (r k)) (leastOf hit r k) ≡ 0
+        → (j < k → leastOf hit r k ≡ 0 → r j ≡ 0) → r j ≡ 0
+    by true q true a w before = rw (eqb-true j k q) (lesser-zero (leastOf hit r k) (r k) w .1)
+    by true q false a w before = absurd (no-bool (sym a ∙ (rw (eqb-true j k q) at p)))
+    by false q true a w before = let d = eqb-false j k q in before (omega arith) (lesser-zero (leastOf hit r k) (r k) w .0)
+    by false q false a w before = let d = eqb-false j k q in before (omega arith) w
+
+-- and that of the things before the last
+least-before : (hit : ℕ → Bool) (r : ℕ → ℕ) (k : ℕ) → leastOf hit r (suc k) ≡ 0 → leastOf hit r k ≡ 0
+unfolding leastOf
+least-before hit r k = by (hit k)
+  where
+    by : (c : Bool) → pick c (lesser (leastOf hit r k) (r k)) (leastOf hit r k) ≡ 0 → leastOf hit r k ≡ 0
+    by true w = lesser-zero (leastOf hit r k) (r k) w .0
+    by false w = w
+
+or-false : (c : Bool) → or c false ≡ c
+or-false true = refl
+or-false false = refl
+
+-- an arc whose values are the same fails as it did
+fails-same : {Word : Type 0} (e : Entry Word) (number j : ℕ) (v w : Values) → ((t : Slot) → t .arc ≡ j → v t ≡ w t)
+    → arcFails e number v j ≡ arcFails e number w j
+unfolding arcFails slotAt
+fails-same e number j v w s =
+    by-number (λ (t : Slot). failsWith number (step (v t) (supply e t))) j
+    ∙ any-cong _ _ (below 18) (λ i k. ap (λ y. failsWith number (step y (supply e (slotAt j i)))) (s (slotAt j i) refl))
+    ∙ sym (by-number (λ (t : Slot). failsWith number (step (w t) (supply e t))) j)
+
+-- the values with those of the arcs below k that pass the test changed: the others are as they were
+still : {Word : Type 0} (e : Entry Word) (hit : ℕ → Bool) (k : ℕ) (now : Values) (t : Slot) → k ≤ t .arc
+    → changedAt e (λ j. and (hit j) (ltb j k)) now t ≡ now t
+unfolding changedAt
+still e hit k now t a = rw (le-ltb (t .arc) k (omega arith)) (by (hit (t .arc)))
+  where
+    by : (c : Bool) → pick (and c false) (final (step (now t) (supply e t))) (now t) ≡ now t
+    by true = refl
+    by false = refl
+
+-- and then, if it passes, arc k's too
+changed-next : {Word : Type 0} (e : Entry Word) (hit : ℕ → Bool) (k : ℕ) (now : Values) (t : Slot) → hit k ≡ true
+    → changedAt e (λ j. eqb j k) (changedAt e (λ j. and (hit j) (ltb j k)) now) t ≡ changedAt e (λ j. and (hit j) (ltb j (suc k))) now t
+unfolding changedAt
+changed-next e hit k now t p = by (eqb (t .arc) k) refl
+  where
+    after : Value → Value
+    after v = final (step v (supply e t))
+
+    by : (y : Bool) → eqb (t .arc) k ≡ y
+        → pick y (after (pick (and (hit (t .arc)) (ltb (t .arc) k)) (after (now t)) (now t))) (pick (and (hit (t .arc)) (ltb (t .arc) k)) (after (now t)) (now t))
+        ≡ pick (and (hit (t .arc)) (ltb (t .arc) (suc k))) (after (now t)) (now t)
+    by true q =
+        let a = eqb-true (t .arc) k q in
+        rw (a, p, le-ltb k k (omega arith), lt-ltb k (suc k) (omega arith))
+    by false q = rw (one-more (t .arc) k (eqb-false (t .arc) k q))
+
+-- if it does not, the test is the same
+unchanged-next : {Word : Type 0} (e : Entry Word) (hit : ℕ → Bool) (k : ℕ) (now : Values) (t : Slot) → hit k ≡ false
+    → changedAt e (λ j. and (hit j) (ltb j k)) now t ≡ changedAt e (λ j. and (hit j) (ltb j (suc k))) now t
+unfolding changedAt
+unchanged-next e hit k now t p = by (eqb (t .arc) k) refl
+  where
+    by : (y : Bool) → eqb (t .arc) k ≡ y
+        → pick (and (hit (t .arc)) (ltb (t .arc) k)) (final (step (now t) (supply e t))) (now t)
+        ≡ pick (and (hit (t .arc)) (ltb (t .arc) (suc k))) (final (step (now t) (supply e t))) (now t)
+    by true q = let a = eqb-true (t .arc) k q in rw (a, p)
+    by false q = rw (one-more (t .arc) k (eqb-false (t .arc) k q))
+
 module _ (b : List ℕ) (bytes : Bytes b) (n m f : ℕ) (good : checkOf b ≡ Good n m f) {Word : Type 0} (e : Entry Word) (rows : List (List ℕ)) (add : Bool)
     (x : Expanded e rows add) where
   -- the place of arc j's values
@@ -277,3 +353,66 @@ module _ (b : List ℕ) (bytes : Bytes b) (n m f : ℕ) (good : checkOf b ≡ Go
         ≡ spelled (sheetAt b n m f) (changedAt e (λ k. eqb k j) now)
     arc-written j l z =
         slots-written j 18 l (omega arith) z ∙ spelled-same b bytes n m f good (partly e j now 18) _ (λ t k. partly-all e j now t)
+
+  -- Several arcs.
+
+  module _ (now : Values) (fine : (t : Slot) → InRange (now t)) where
+    -- those below k that pass the test refuse what their slots refuse
+    pub hits-refusal : (hit : ℕ → Bool) (k : ℕ) → k ≤ m
+        → leastOf hit (λ j. arcRefusal (spelled (sheetAt b n m f) now) (valuesAt b (place b j f)) rows add 18) k
+        ≡ firstOf false (anyOf (λ j. and (hit j) (arcFails e 15 now j)) (below k)) (anyOf (λ j. and (hit j) (arcFails e 16 now j)) (below k))
+    unfolding leastOf
+    hits-refusal hit zero l = none-yet _ _
+    hits-refusal hit (suc k) l =
+        rw (hits-refusal hit k (omega arith), arc-refusal now fine k (omega arith), any-below, any-below) (by (hit k) _ _)
+      where
+        by : (c p q : Bool)
+            → pick c (lesser (firstOf false p q) (firstOf false (arcFails e 15 now k) (arcFails e 16 now k))) (firstOf false p q)
+            ≡ firstOf false (or p (and c (arcFails e 15 now k))) (or q (and c (arcFails e 16 now k)))
+        by true p q = lesser-first false p q false (arcFails e 15 now k) (arcFails e 16 now k)
+        by false p q = rw (or-false p, or-false q)
+
+    -- if they refuse nothing, the values stay in range
+    pub hits-in-range : (hit : ℕ → Bool) (k : ℕ) → k ≤ m
+        → leastOf hit (λ j. arcRefusal (spelled (sheetAt b n m f) now) (valuesAt b (place b j f)) rows add 18) k ≡ 0
+        → (t : Slot) → InRange (changedAt e (λ j. and (hit j) (ltb j k)) now t)
+    unfolding changedAt
+    hits-in-range hit k l z t = by (hit (t .arc)) refl (ltb (t .arc) k) refl
+      where
+        by : (c : Bool) → hit (t .arc) ≡ c → (y : Bool) → ltb (t .arc) k ≡ y → InRange (pick (and c y) (final (step (now t) (supply e t))) (now t))
+        by false p y q = fine t
+        by true p false q = fine t
+        by true p true q =
+            let g = ltb-true (t .arc) k q in
+            change-range now fine t (omega arith) (least-zero hit (refuses (spelled (sheetAt b n m f) now)) k (t .arc) g p z)
+
+    -- arc k refuses nothing, on the sheet with those before it written
+    next-refusal : (hit : ℕ → Bool) (k : ℕ) → k < m → ((t : Slot) → InRange (changedAt e (λ j. and (hit j) (ltb j k)) now t))
+        → refuses (spelled (sheetAt b n m f) (changedAt e (λ j. and (hit j) (ltb j k)) now)) k ≡ refuses (spelled (sheetAt b n m f) now) k
+    next-refusal hit k l r =
+        let same : (t : Slot) → t .arc ≡ k → changedAt e (λ j. and (hit j) (ltb j k)) now t ≡ now t = λ t a. still e hit k now t (omega arith) in
+        arc-refusal _ r k l ∙ rw (fails-same e 15 k _ now same, fails-same e 16 k _ now same) (sym (arc-refusal now fine k l))
+
+    -- and their bytes, written, spell the values with theirs changed
+    pub hits-written : (hit : ℕ → Bool) (k : ℕ) → k ≤ m
+        → leastOf hit (λ j. arcRefusal (spelled (sheetAt b n m f) now) (valuesAt b (place b j f)) rows add 18) k ≡ 0
+        → writtenOf hit (λ j o. arcWritten o (valuesAt b (place b j f)) rows add 18) (spelled (sheetAt b n m f) now) k
+        ≡ spelled (sheetAt b n m f) (changedAt e (λ j. and (hit j) (ltb j k)) now)
+    unfolding writtenOf
+    hits-written hit zero l z = sym (spelled-same b bytes n m f good (changedAt e (λ j. and (hit j) (ltb j 0)) now) now (λ t g. still e hit 0 now t (omega arith)))
+    hits-written hit (suc k) l z =
+        let before = least-before hit (refuses (spelled (sheetAt b n m f) now)) k z in
+        let r = hits-in-range hit k (omega arith) before in
+        rw (hits-written hit k (omega arith) before) (by r (hit k) refl)
+      where
+        old : Values
+        old = changedAt e (λ j. and (hit j) (ltb j k)) now
+
+        by : ((t : Slot) → InRange (old t)) → (c : Bool) → hit k ≡ c
+            → pick c (arcWritten (spelled (sheetAt b n m f) old) (valuesAt b (place b k f)) rows add 18) (spelled (sheetAt b n m f) old)
+            ≡ spelled (sheetAt b n m f) (changedAt e (λ j. and (hit j) (ltb j (suc k))) now)
+        by r true p =
+            let w = least-zero hit (refuses (spelled (sheetAt b n m f) now)) (suc k) k (omega arith) p z in
+            arc-written old r k (omega arith) (next-refusal hit k (omega arith) r ∙ w)
+            ∙ spelled-same b bytes n m f good (changedAt e (λ j. eqb j k) old) _ (λ t g. changed-next e hit k now t p)
+        by r false p = spelled-same b bytes n m f good old _ (λ t g. unchanged-next e hit k now t p)
