@@ -43,12 +43,12 @@ by-number : (g : Slot → Bool) (j : ℕ) → anyOf g (arcSlots j) ≡ anyOf (λ
 unfolding anyOf arcSlots each below slotAt
 by-number g j = refl
 
--- and where there are none
+-- no slots, no refusal
 none-yet : (F G : ℕ → Bool) → 0 ≡ firstOf false (anyOf F (below 0)) (anyOf G (below 0))
 unfolding firstOf anyOf below
 none-yet F G = refl
 
--- neither of two refusals
+-- the lesser of two refusals is none: neither is there
 lesser-zero : (a c : ℕ) → lesser a c ≡ 0 → (a ≡ 0) × (c ≡ 0)
 unfolding lesser
 lesser-zero a c = by (eqb a 0) refl (eqb c 0) refl (leb a c)
@@ -89,7 +89,7 @@ held-range increment (some u) (some t) r q z = by (leb (natAbs (u +ℤ t)) limit
     by true p k = leb-true (natAbs (u +ℤ t)) limit p
     by false p k = absurd (omega arith)
 
--- a test for numbers below i, and i
+-- a number other than i is below i + 1 if it is below i
 one-more : (k i : ℕ) → (k ≡ i → ⊥) → ltb k (suc i) ≡ ltb k i
 one-more k i d = by (ltb k i) refl
   where
@@ -107,6 +107,7 @@ module _ {Word : Type 0} (e : Entry Word) (j : ℕ) (now : Values) where
   unfoldable partly : ℕ → Values
   partly i t = pick (and (eqb (t .arc) j) (ltb (slotNumber t) i)) (final (step (now t) (supply e t))) (now t)
 
+  -- none
   partly-none : (t : Slot) → partly 0 t ≡ now t
   unfolding partly
   partly-none t = rw (le-ltb (slotNumber t) 0 (omega arith)) (by (eqb (t .arc) j))
@@ -162,6 +163,8 @@ put-same v u t = by (sameSlot t u) refl
     by true p = ap v (sym (same-exactly t u .0 p))
     by false p = refl
 
+-- Several things that pass a test.
+
 -- the least refusal is none, and so is that of each thing that passes the test
 least-zero : (hit : ℕ → Bool) (r : ℕ → ℕ) (k j : ℕ) → j < k → hit j ≡ true → leastOf hit r k ≡ 0 → r j ≡ 0
 unfolding leastOf
@@ -189,13 +192,13 @@ or-false true = refl
 or-false false = refl
 
 -- an arc whose values are the same fails as it did
-fails-same : {Word : Type 0} (e : Entry Word) (number j : ℕ) (v w : Values) → ((t : Slot) → t .arc ≡ j → v t ≡ w t)
-    → arcFails e number v j ≡ arcFails e number w j
+fails-same : {Word : Type 0} (e : Entry Word) (c j : ℕ) (v w : Values) → ((t : Slot) → t .arc ≡ j → v t ≡ w t)
+    → arcFails e c v j ≡ arcFails e c w j
 unfolding arcFails slotAt
-fails-same e number j v w s =
-    by-number (λ (t : Slot). failsWith number (step (v t) (supply e t))) j
-    ∙ any-cong _ _ (below 18) (λ i k. ap (λ y. failsWith number (step y (supply e (slotAt j i)))) (s (slotAt j i) refl))
-    ∙ sym (by-number (λ (t : Slot). failsWith number (step (w t) (supply e t))) j)
+fails-same e c j v w s =
+    by-number (λ (t : Slot). failsWith c (step (v t) (supply e t))) j
+    ∙ any-cong _ _ (below 18) (λ i k. ap (λ y. failsWith c (step y (supply e (slotAt j i)))) (s (slotAt j i) refl))
+    ∙ sym (by-number (λ (t : Slot). failsWith c (step (w t) (supply e t))) j)
 
 -- the values with those of the arcs below k that pass the test changed: the others are as they were
 still : {Word : Type 0} (e : Entry Word) (hit : ℕ → Bool) (k : ℕ) (now : Values) (t : Slot) → k ≤ t .arc
@@ -217,7 +220,8 @@ changed-next e hit k now t p = by (eqb (t .arc) k) refl
     after v = final (step v (supply e t))
 
     by : (y : Bool) → eqb (t .arc) k ≡ y
-        → pick y (after (pick (and (hit (t .arc)) (ltb (t .arc) k)) (after (now t)) (now t))) (pick (and (hit (t .arc)) (ltb (t .arc) k)) (after (now t)) (now t))
+        → pick y (after (pick (and (hit (t .arc)) (ltb (t .arc) k)) (after (now t)) (now t)))
+        (pick (and (hit (t .arc)) (ltb (t .arc) k)) (after (now t)) (now t))
         ≡ pick (and (hit (t .arc)) (ltb (t .arc) (suc k))) (after (now t)) (now t)
     by true q =
         let a = eqb-true (t .arc) k q in
@@ -236,8 +240,8 @@ unchanged-next e hit k now t p = by (eqb (t .arc) k) refl
     by true q = let a = eqb-true (t .arc) k q in rw (a, p)
     by false q = rw (one-more (t .arc) k (eqb-false (t .arc) k q))
 
-module _ (b : List ℕ) (bytes : Bytes b) (n m f : ℕ) (good : checkOf b ≡ Good n m f) {Word : Type 0} (e : Entry Word) (rows : List (List ℕ)) (add : Bool)
-    (x : Expanded e rows add) where
+module _ (b : List ℕ) (bytes : Bytes b) (n m f : ℕ) (good : checkOf b ≡ Good n m f) {Word : Type 0} (e : Entry Word)
+    (rows : List (List ℕ)) (add : Bool) (x : Expanded e rows add) where
   -- the place of arc j's values
   abbrev from : ℕ → ℕ
   from j = valuesAt b (place b j f)
@@ -254,7 +258,8 @@ module _ (b : List ℕ) (bytes : Bytes b) (n m f : ℕ) (good : checkOf b ≡ Go
   module _ (now : Values) (fine : (t : Slot) → InRange (now t)) where
     -- one slot
     slot-refusal : (j i : ℕ) → j < m → i < 18
-        → refusal add (be64 (spelled (sheetAt b n m f) now) (from j + 8 * i)) (given rows i) ≡ heldRefusal (step (now (slotAt j i)) (supply e (slotAt j i)))
+        → refusal add (be64 (spelled (sheetAt b n m f) now) (from j + 8 * i)) (given rows i)
+        ≡ heldRefusal (step (now (slotAt j i)) (supply e (slotAt j i)))
     unfolding supply
     slot-refusal j i l g =
         let u = slotAt j i in
@@ -276,22 +281,27 @@ module _ (b : List ℕ) (bytes : Bytes b) (n m f : ℕ) (good : checkOf b ≡ Go
         ≡ firstOf false (arcFails e 15 now j) (arcFails e 16 now j)
     unfolding arcFails
     arc-refusal j l =
-        rw (by-number (λ (t : Slot). failsWith 15 (step (now t) (supply e t))) j, by-number (λ (t : Slot). failsWith 16 (step (now t) (supply e t))) j)
+        rw (
+          by-number (λ (t : Slot). failsWith 15 (step (now t) (supply e t))) j,
+          by-number (λ (t : Slot). failsWith 16 (step (now t) (supply e t))) j,
+        )
         (slots-refusal j 18 l (omega arith))
 
-    -- slot i of an arc that refuses nothing
+    -- what is left in slot i of an arc that refuses nothing is in range
     slot-range : (j i : ℕ) → j < m → i < 18 → refuses (spelled (sheetAt b n m f) now) j ≡ 0
         → InRange (final (step (now (slotAt j i)) (supply e (slotAt j i))))
     unfolding supply
     slot-range j i l g z =
         let u = slotAt j i in
-        let r : heldRefusal (step (now u) (giving (e .group) (number e u))) ≡ 0 = sym (slot-refusal j i l g) ∙ each-zero _ (from j) rows add 18 i g z in
+        let r : heldRefusal (step (now u) (giving (e .group) (number e u))) ≡ 0
+        = sym (slot-refusal j i l g) ∙ each-zero _ (from j) rows add 18 i g z in
         held-range (e .group) (now u) (number e u) (fine u) (x .times u) r
 
     -- and so any slot of it
     change-range : (t : Slot) → t .arc < m → refuses (spelled (sheetAt b n m f) now) (t .arc) ≡ 0 → InRange (final (step (now t) (supply e t)))
     change-range t l z = rw (slot-at t) at (slot-range (t .arc) (slotNumber t) l (slot-below t) z)
 
+    -- and all values, while the arc's are written
     partly-range : (j i : ℕ) → j < m → refuses (spelled (sheetAt b n m f) now) j ≡ 0 → (t : Slot) → InRange (partly e j now i t)
     unfolding partly
     partly-range j i l z t = by (eqb (t .arc) j) refl (ltb (slotNumber t) i)
@@ -326,7 +336,8 @@ module _ (b : List ℕ) (bytes : Bytes b) (n m f : ℕ) (good : checkOf b ≡ Go
 
         by : (y : Bool) → eqb (wordOf (number e u)) empty ≡ y
             → pick y (spelled (sheetAt b n m f) v)
-            (paste (spelled (sheetAt b n m f) v) (from j + 8 * i) (beBytes (changed add (be64 (spelled (sheetAt b n m f) v) (from j + 8 * i)) (wordOf (number e u)))) 8)
+            (paste (spelled (sheetAt b n m f) v) (from j + 8 * i)
+            (beBytes (changed add (be64 (spelled (sheetAt b n m f) v) (from j + 8 * i)) (wordOf (number e u)))) 8)
             ≡ spelled (sheetAt b n m f) (put v u (final (step (now u) (giving (e .group) (number e u)))))
         by true p =
             let a : number e u ≡ none = word-is-empty (number e u) (x .times u) .0 p in
@@ -334,10 +345,15 @@ module _ (b : List ℕ) (bytes : Bytes b) (n m f : ℕ) (good : checkOf b ≡ Go
             (sym (spelled-same b bytes n m f good (put v u (v u)) v (λ t k. put-same v u t)))
         by false p =
             let a : number e u ≡ none → ⊥ = λ q. no-bool (sym p ∙ word-is-empty (number e u) (x .times u) .1 q) in
-            rw (word-get b bytes n m f good v (partly-range j i l z) j i l g, partly-here e j now i g, x .adds,
-            changed-is (e .group) (now u) (number e u) (fine u) (x .times u) a r)
+            rw (
+              word-get b bytes n m f good v (partly-range j i l z) j i l g,
+              partly-here e j now i g,
+              x .adds,
+              changed-is (e .group) (now u) (number e u) (fine u) (x .times u) a r,
+            )
             (word-set b bytes n m f good v j i (final (step (now u) (giving (e .group) (number e u)))) l g)
 
+    -- and the first i
     slots-written : (j i : ℕ) → j < m → i ≤ 18 → refuses (spelled (sheetAt b n m f) now) j ≡ 0
         → arcWritten (spelled (sheetAt b n m f) now) (from j) rows add i ≡ spelled (sheetAt b n m f) (partly e j now i)
     unfolding arcWritten
@@ -390,7 +406,8 @@ module _ (b : List ℕ) (bytes : Bytes b) (n m f : ℕ) (good : checkOf b ≡ Go
     next-refusal : (hit : ℕ → Bool) (k : ℕ) → k < m → ((t : Slot) → InRange (changedAt e (λ j. and (hit j) (ltb j k)) now t))
         → refuses (spelled (sheetAt b n m f) (changedAt e (λ j. and (hit j) (ltb j k)) now)) k ≡ refuses (spelled (sheetAt b n m f) now) k
     next-refusal hit k l r =
-        let same : (t : Slot) → t .arc ≡ k → changedAt e (λ j. and (hit j) (ltb j k)) now t ≡ now t = λ t a. still e hit k now t (omega arith) in
+        let same : (t : Slot) → t .arc ≡ k → changedAt e (λ j. and (hit j) (ltb j k)) now t ≡ now t
+        = λ t a. still e hit k now t (omega arith) in
         arc-refusal _ r k l ∙ rw (fails-same e 15 k _ now same, fails-same e 16 k _ now same) (sym (arc-refusal now fine k l))
 
     -- and their bytes, written, spell the values with theirs changed
@@ -399,7 +416,8 @@ module _ (b : List ℕ) (bytes : Bytes b) (n m f : ℕ) (good : checkOf b ≡ Go
         → writtenOf hit (λ j o. arcWritten o (valuesAt b (place b j f)) rows add 18) (spelled (sheetAt b n m f) now) k
         ≡ spelled (sheetAt b n m f) (changedAt e (λ j. and (hit j) (ltb j k)) now)
     unfolding writtenOf
-    hits-written hit zero l z = sym (spelled-same b bytes n m f good (changedAt e (λ j. and (hit j) (ltb j 0)) now) now (λ t g. still e hit 0 now t (omega arith)))
+    hits-written hit zero l z =
+        sym (spelled-same b bytes n m f good (changedAt e (λ j. and (hit j) (ltb j 0)) now) now (λ t g. still e hit 0 now t (omega arith)))
     hits-written hit (suc k) l z =
         let before = least-before hit (refuses (spelled (sheetAt b n m f) now)) k z in
         let r = hits-in-range hit k (omega arith) before in
