@@ -3,3 +3,4 @@ pub mod Judged
 pub mod Bytes
 pub mod Ready
 pub mod Rows
+pub mod Arcs
