@@ -20,8 +20,10 @@ use Rattle.views.specs.Views.{cellAt, headAt}
 use Rattle.sound.specs.Sound.{SoundItem, SoundValue, Each}
 use Rattle.history.specs.Sheet.{absolute, increment, check}
 use Rattle.amounts.specs.Laws.{isAdd}
-use Rattle.amounts.specs.Expand.{isCheck, Timely}
-use Rattle.applying.specs.Says.{groupOf}
+use Rattle.amounts.specs.Amounts.{expanded}
+use Rattle.amounts.specs.Expand.{isCheck, Timely, expanded-is, amount-in-range}
+use Rattle.applying.specs.Says.{groupOf, entryOf}
+use Rattle.applying.specs.Arcs.{Expanded}
 
 -- the 28 words from p on are the entry's row, the 7 words the cell's
 abbrev pub EntryIs : List ℕ → ℕ → Item → Type 0
@@ -97,3 +99,15 @@ group-checks g = go (eqb g 73) refl (eqb g 84) refl
 pub timely : (vs : List Value) → Each SoundValue vs → Timely vs
 timely [] s = tt
 timely (v ∷ vs) s = (s .0, timely vs (s .1))
+
+-- the row's words expand to what the entry supplies
+pub item-expanded : {Word : Type 0} (word : ℕ → Word) (text : List ℕ) (slash : Bool) (t : List ℕ) (p : ℕ) (i : Item) → EntryIs t p i → SoundItem i
+    → Expanded (entryOf word text slash i) (expanded t (p + 10) (eqb (i .head .group) 84) (getD t (p + 9) 0)) (eqb (i .head .group) 73)
+unfolding entryOf
+item-expanded word text slash t p i r s =
+    let g = groupOf (i .head .group) in
+    record {
+      adds = group-adds (i .head .group);
+      words = λ k h. rw (group-checks (i .head .group), count-is t p i r) (expanded-is t (p + 10) g (i .values) (words-are t p i r) k h);
+      times = λ u. amount-in-range g (i .values) (timely (i .values) (s .values)) (u .row) (u .corner);
+    }
