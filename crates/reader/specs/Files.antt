@@ -100,8 +100,14 @@ short-enough cr ir s h = rw (le-ltb textLimit (length s) h)
 pub file-refused : (o : Res At) (k q : ℕ) (u u′ t t′ : List ℕ) (r : FileRead) → o ≡ bad k q → u′ ≡ u → t′ ≡ t →
     (r .answer ≡ answer.Refused k q) × (r .slash ≡ false) × (r .unit ≡ 6) × (r .texts ≡ replicate 14 0) → FileIs o u u′ t t′ r
 file-refused o k q u u′ t t′ r e f g a =
-    record { says = a .0 ∙ ap answerOf (sym e); cells = f ∙ ap (λ x. cellsLeft x u) (sym e); entries = g ∙ ap (λ x. entriesLeft x t) (sym e);
-      slash = a .1 ∙ ap slashOf (sym e); unit = a .2 ∙ ap unitOf (sym e); texts = a .3 ∙ ap textsOf (sym e) }
+    record {
+      says = a .0 ∙ ap answerOf (sym e);
+      cells = f ∙ ap (λ x. cellsLeft x u) (sym e);
+      entries = g ∙ ap (λ x. entriesLeft x t) (sym e);
+      slash = a .1 ∙ ap slashOf (sym e);
+      unit = a .2 ∙ ap unitOf (sym e);
+      texts = a .3 ∙ ap textsOf (sym e);
+    }
 
 -- a first pass that was fine, and the second one
 pub file-read : (o o′ : Res At) (cr ir n m : ℕ) (u u1 u2 t t1 t2 ts′ ts″ : List ℕ) (d d2 : Bool) (unit unit2 : ℕ) (a : Answer) (r : FileRead) →
@@ -117,5 +123,5 @@ file-read o o′ cr ir n m u u1 u2 t t1 t2 ts′ ts″ d d2 unit unit2 a r e f g
       entries = w .1 ∙ rw (f .6) (ap (λ x. entriesLeft x t) (sym p));
       slash = h .1 ∙ ap slashOf (sym p);
       unit = h .2 ∙ ap unitOf (sym p);
-      texts = h .3 ∙ ap textsOf (sym p)
+      texts = h .3 ∙ ap textsOf (sym p);
     }

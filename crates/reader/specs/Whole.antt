@@ -48,8 +48,8 @@ cellAt pl b e k f t n = record { place = pl; typefrom = b; typeto = e; sort = k;
 abbrev pub TailDone : List ℕ → ℕ → Bool → ℕ → ℕ → ℕ → ℕ → Cell → List Item → Type 0
 TailDone s p d unit room pl e c js =
     (ss : Stack) (cr : ℕ) (ts : List ℕ) (cs : List Cell) (is : List Item) →
-      reading s (state (cellTail d ++ ss) false d unit cr room (begunAt pl ts cs is)) p ≡
-      reading s (state ss false d unit cr (room - length js) (tidy ts (cs ++ c ∷ []) (is ++ js))) e
+    reading s (state (cellTail d ++ ss) false d unit cr room (begunAt pl ts cs is)) p ≡
+    reading s (state ss false d unit cr (room - length js) (tidy ts (cs ++ c ∷ []) (is ++ js))) e
 
 abbrev pub TailNot : List ℕ → ℕ → Bool → ℕ → ℕ → ℕ → ℕ → ℕ → Type 0
 TailNot s p d unit room pl n q =
@@ -164,8 +164,10 @@ module _ (s : List ℕ) (p k b e v : ℕ) (long : Bool) (i : InHand s (hand.At p
     where
       x : ℕ
       x = keyOf (part b e s)
+
       same : v ≡ x
       same = i .2 ∙ rw (eq-eqb k 7 q)
+
       by : (f : Bool) → leb 53 x ≡ f → (g : Bool) → leb x 53 ≡ g → and (leb 53 x) (leb x 53) ≡ false
       by true f true g = absurd (n (same ∙ (let a = leb-true 53 x f in let c = leb-true x 53 g in omega arith)))
       by true f false g = rw (f, g)
