@@ -54,7 +54,8 @@ boomcrutch_read boomcrutch_read_file(const uint8_t *text, size_t text_length,
                                      uint64_t *cells, size_t cells_length,
                                      uint64_t *entries, size_t entries_length);
 
-/* Reads a single cell with its file's divider and time scale. */
+/* Reads a single cell with its file's divider (0 for ., 1 for /) and time scale (0 to 17), which then stand in the answer.
+ * With any other number for one of them the text is not judged: number 255 at place 0, and the tables stay as lent. */
 boomcrutch_read boomcrutch_read_cell(const uint8_t *text, size_t text_length, uint64_t slash, uint64_t scale,
                                      uint64_t *cells, size_t cells_length,
                                      uint64_t *entries, size_t entries_length);

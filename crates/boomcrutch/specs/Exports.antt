@@ -1,14 +1,19 @@
 -- The answers of the static library: each answer's numbers, by the definitions that the other contracts use.
 -- Assumes nothing.
+use mathlib.Core.Path.{_≡_, _∙_}
 use mathlib.Core.Bool.{Bool}
 use mathlib.Core.List.{List}
-use Prim.Native.Nat.{ℕ}
+use Prim.Native.Nat.{ℕ, _≤_, _<_}
+use lib.Dec.{eqb, ltb}
+use borrow.Author.Tests.{lt-ltb, le-ltb}
 use Rattle.classes.specs.Choice.{pick}
-use Rattle.grammar.specs.Machine.{Res}
+use Rattle.grammar.specs.Machine.{Res, bad}
 use Rattle.grammar.specs.Reading.{At}
+use Rattle.grammar.specs.Outcome.{readCell}
 use Rattle.reader.specs.declared.Answer.{Answer}
 use Rattle.reader.specs.declared.Answer.the-variants as answer
-use Rattle.reader.specs.Files.{answerOf, slashOf, unitOf, textsOf}
+use Rattle.reader.specs.declared.FileRead.{FileRead}
+use Rattle.reader.specs.Files.{answerOf, cellsLeft, entriesLeft, slashOf, unitOf, textsOf, FileIs}
 use Rattle.sheetform.specs.declared.SheetCheck.{SheetCheck}
 use Rattle.sheetform.specs.declared.SheetCheck.the-variants as sheet
 use Rattle.boomcrutch.specs.declared.ReadNumbers.{ReadNumbers}
@@ -21,6 +26,25 @@ fileNumbers (answer.Refused k q) slash unit texts = record { number = k; place =
 
 abbrev pub readNumbers : Res At → ReadNumbers
 readNumbers o = fileNumbers (answerOf o) (slashOf o) (unitOf o) (textsOf o)
+
+-- One cell, 'read with the file's divider and time scale', which come as numbers: 0 for . and 1 for /; a power of ten, 0 (1 fs) to 17 (100 s).
+-- By numbers that no file has, the text is not judged: 255 at 0, no number of the paper's, and nothing is written, as after a refusal.
+abbrev pub cellBy : ℕ → ℕ → ℕ → ℕ → List ℕ → Res At
+cellBy slash scale cr ir s = pick (ltb 1 slash) (bad 255 0) (pick (ltb 17 scale) (bad 255 0) (readCell (eqb slash 1) scale cr ir s))
+
+-- what the reader leaves is what the library leaves
+pub same-left : (o : Res At) (u u′ t t′ : List ℕ) (f : FileRead) (r : ReadNumbers) → FileIs o u u′ t t′ f →
+    r ≡ fileNumbers (f .answer) (f .slash) (f .unit) (f .texts) → (r ≡ readNumbers o) × (u′ ≡ cellsLeft o u) × (t′ ≡ entriesLeft o t)
+same-left o u u′ t t′ f r a e = (e ∙ rw (a .says, a .slash, a .unit, a .texts), a .cells, a .entries)
+
+pub no-divider : (slash scale cr ir : ℕ) (s : List ℕ) → 1 < slash → cellBy slash scale cr ir s ≡ bad 255 0
+no-divider slash scale cr ir s h = rw (lt-ltb 1 slash h)
+
+pub no-scale : (slash scale cr ir : ℕ) (s : List ℕ) → slash ≤ 1 → 17 < scale → cellBy slash scale cr ir s ≡ bad 255 0
+no-scale slash scale cr ir s g h = rw (le-ltb 1 slash g, lt-ltb 17 scale h)
+
+pub cell-by : (slash scale cr ir : ℕ) (s : List ℕ) → slash ≤ 1 → scale ≤ 17 → cellBy slash scale cr ir s ≡ readCell (eqb slash 1) scale cr ir s
+cell-by slash scale cr ir s g h = rw (le-ltb 1 slash g, le-ltb 17 scale h)
 
 -- 0 and the counts; or refusal 10 at 0
 abbrev pub sheetNumbers : SheetCheck → SheetNumbers

@@ -1,16 +1,19 @@
 // What Rust and C call: the functions of the static library. Each takes whatever it is given; bad input gets its refusal.
 ghost use mathlib.Core.Path.{_≡_};
+ghost use mathlib.Core.Bool.{false};
 ghost use Prim.Native.Nat.{_/_};
-ghost use lib.ListN.{length};
+ghost use lib.ListN.{length, replicate};
 ghost use Rattle.classes.specs.Choice.{pick};
 ghost use Rattle.tokens.specs.Stream.{stream, count};
 ghost use Rattle.grammar.specs.Outcome.{readFile};
 ghost use Rattle.reader.specs.Files.{cellsLeft, entriesLeft};
 ghost use Rattle.sheetform.specs.Form.{checkOf};
-ghost use Rattle.boomcrutch.specs.Exports.{readNumbers, sheetNumbers};
+ghost use Rattle.boomcrutch.specs.Exports.{fileNumbers, readNumbers, cellBy, sheetNumbers};
 use tokens::count_tokens;
 use reader::Answer;
+use reader::FileRead;
 use reader::read_file;
+use reader::read_cell;
 use sheetform::SheetCheck;
 use sheetform::check_sheet;
 
@@ -49,12 +52,10 @@ fn bit(flag: bool) -> u64
     if flag { 1 } else { 0 }
 }
 
-// Reads a file into the two tables.
-#[no_mangle]
-pub extern "C" fn boomcrutch_read_file(text: &[u8], cells: &mut [u64], entries: &mut [u64]) -> ReadNumbers
-    ensures { λ r. ⌜ (r ≡ readNumbers (readFile (length (now (cells .entry)) / 7) (length (now (entries .entry)) / 28) (now (text .entry)))) × (now (cells .exit) ≡ cellsLeft (readFile (length (now (cells .entry)) / 7) (length (now (entries .entry)) / 28) (now (text .entry))) (now (cells .entry))) × (now (entries .exit) ≡ entriesLeft (readFile (length (now (cells .entry)) / 7) (length (now (entries .entry)) / 28) (now (text .entry))) (now (entries .entry))) ⌝ }
+// The numbers of a reading's answer.
+fn numbers(read: FileRead) -> ReadNumbers
+    ensures { λ r. ⌜ r ≡ fileNumbers (read .answer) (read .slash) (read .unit) (read .texts) ⌝ }
 {
-    let read = read_file(text, cells, entries);
     let answer = read.answer;
     let texts = read.texts;
     match answer {
@@ -67,6 +68,37 @@ pub extern "C" fn boomcrutch_read_file(text: &[u8], cells: &mut [u64], entries: 
             ReadNumbers { number: 0, place: 0, cells: c as u64, entries: e as u64, slash: bit(slash), scale: unit as u64, texts: texts }
         }
     }
+}
+
+// Reads a file into the two tables.
+#[no_mangle]
+pub extern "C" fn boomcrutch_read_file(text: &[u8], cells: &mut [u64], entries: &mut [u64]) -> ReadNumbers
+    ensures { λ r. ⌜ (r ≡ readNumbers (readFile (length (now (cells .entry)) / 7) (length (now (entries .entry)) / 28) (now (text .entry)))) × (now (cells .exit) ≡ cellsLeft (readFile (length (now (cells .entry)) / 7) (length (now (entries .entry)) / 28) (now (text .entry))) (now (cells .entry))) × (now (entries .exit) ≡ entriesLeft (readFile (length (now (cells .entry)) / 7) (length (now (entries .entry)) / 28) (now (text .entry))) (now (entries .entry))) ⌝ }
+{
+    let read = read_file(text, cells, entries);
+    numbers(read)
+}
+
+// The answer where the divider or the time scale is none that a file can have: 255, which is no refusal's number.
+fn no_setting() -> ReadNumbers
+    ensures { λ r. ⌜ r ≡ fileNumbers (Answer.Refused 255 0) false 6 (replicate 14 0) ⌝ }
+{
+    ReadNumbers { number: 255, place: 0, cells: 0, entries: 0, slash: 0, scale: 0, texts: [0usize; 14] }
+}
+
+// Reads a text that is one cell into the two tables, by the divider (0 for ., 1 for /) and the time scale of its file.
+#[no_mangle]
+pub extern "C" fn boomcrutch_read_cell(text: &[u8], slash: u64, scale: u64, cells: &mut [u64], entries: &mut [u64]) -> ReadNumbers
+    ensures { λ r. ⌜ (r ≡ readNumbers (cellBy slash scale (length (now (cells .entry)) / 7) (length (now (entries .entry)) / 28) (now (text .entry)))) × (now (cells .exit) ≡ cellsLeft (cellBy slash scale (length (now (cells .entry)) / 7) (length (now (entries .entry)) / 28) (now (text .entry))) (now (cells .entry))) × (now (entries .exit) ≡ entriesLeft (cellBy slash scale (length (now (cells .entry)) / 7) (length (now (entries .entry)) / 28) (now (text .entry))) (now (entries .entry))) ⌝ }
+{
+    if 1 < slash {
+        return no_setting();
+    }
+    if 17 < scale {
+        return no_setting();
+    }
+    let read = read_cell(text, slash == 1, scale as u8, cells, entries);
+    numbers(read)
 }
 
 // Checks a timing sheet.

@@ -1,3 +1,4 @@
 pub mod Whole
 pub mod Left
 pub mod Files
+pub mod One

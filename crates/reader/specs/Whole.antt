@@ -1,9 +1,9 @@
 -- Whole cells, one after the other, up to the end of the text: contracts and rules.
 -- Assumes nothing.
-use mathlib.Core.Path.{_≡_, refl, ap, _∙_, sym}
+use mathlib.Core.Path.{_≡_, refl, _∙_, sym}
 use mathlib.Core.Bool.{Bool, true, false}
-use mathlib.Core.List.{List, [], _∷_, _++_, append-assoc, append-nil}
-use Prim.Native.Nat.{ℕ, zero, suc, _+_, _-_, _*_, _≤_, _<_}
+use mathlib.Core.List.{List, [], _∷_, _++_, append-nil}
+use Prim.Native.Nat.{ℕ, _+_, _-_, _*_, _≤_}
 use native.Mathlib.Omega.{arith}
 use lib.Dec.{eqb, leb}
 use lib.ListN.{length, length-append}
@@ -11,7 +11,7 @@ use borrow.Author.Tests.{eq-eqb, ne-eqb, eqb-true, leb-true}
 use Rattle.classes.specs.Choice.{pick, and, within}
 use Rattle.tokens.specs.declared.Token.the-variants.{Got, Stop}
 use Rattle.tokens.specs.Tokens.{tokenAt}
-use Rattle.tokens.specs.Stream.{Placed, placed, part}
+use Rattle.tokens.specs.Stream.{placed, part}
 use Rattle.words.specs.Words.{keyOf}
 use Rattle.grammar.specs.Ll.{lit, non}
 use Rattle.grammar.specs.Machine.{Res, fine, bad}
@@ -22,22 +22,20 @@ use Rattle.grammar.specs.declared.Hand.{Hand}
 use Rattle.grammar.specs.declared.Hand.the-variants as hand
 use Rattle.grammar.specs.declared.ReadBody.{ReadBody}
 use Rattle.grammar.specs.declared.ReadBody.the-variants as body
-use Rattle.grammar.specs.Grammar.{alts, header, more, cellTail, keys, keyword, key, cell, _‼_, specs, ⟨}
-use Rattle.grammar.specs.Meaning.{Log, Item, Begun, begins, celled, pathed, typed, finished, tidy, wrongly, cellOf, noHead, nothing, noCell}
+use Rattle.grammar.specs.Grammar.{alts, header, more, cellTail, keys, key, cell, _‼_, _⇒_}
+use Rattle.grammar.specs.Meaning.{Log, Item, begins, celled, pathed, typed, finished, tidy, wrongly}
 use Rattle.grammar.specs.Reading.{At, reading, goes, halts, turn}
 use Rattle.grammar.specs.Outcome.{Stack, state}
 use Rattle.rules.specs.Contracts.{holds, InHand}
-use Rattle.rules.specs.Rules.{ahead}
+use Rattle.rules.specs.Rules.{ahead, heads}
 use Rattle.header.specs.Short.{short}
 use Rattle.header.specs.Steps.{Takes}
 use Rattle.cells.specs.Cells.{after, BodyDone, BodyNot, filled, HeadRead}
 use Rattle.cells.specs.declared.CellHead.the-variants as ch
-use Rattle.tables.specs.Layout.{cellRow, cellRows, length-cells, cells-more, entryRows, entries-append, length-entries}
-use Rattle.tables.specs.Pastes.{put, put-none, put-put}
+use Rattle.tables.specs.Layout.{cellRows}
+use Rattle.tables.specs.Pastes.{put}
 use Rattle.reader.specs.declared.More.{More}
 use Rattle.reader.specs.declared.More.the-variants as mr
-use Rattle.reader.specs.declared.Answer.{Answer}
-use Rattle.reader.specs.declared.Answer.the-variants as ans
 
 -- A CELL behind its keyword, which stands at pl
 abbrev pub begunAt : ℕ → List ℕ → List Cell → List Item → Log
@@ -50,8 +48,8 @@ cellAt pl b e k f t n = record { place = pl; typefrom = b; typeto = e; sort = k;
 abbrev pub TailDone : List ℕ → ℕ → Bool → ℕ → ℕ → ℕ → ℕ → Cell → List Item → Type 0
 TailDone s p d unit room pl e c js =
     (ss : Stack) (cr : ℕ) (ts : List ℕ) (cs : List Cell) (is : List Item) →
-      reading s (state (cellTail d ++ ss) false d unit cr room (begunAt pl ts cs is)) p ≡
-      reading s (state ss false d unit cr (room - length js) (tidy ts (cs ++ c ∷ []) (is ++ js))) e
+    reading s (state (cellTail d ++ ss) false d unit cr room (begunAt pl ts cs is)) p ≡
+    reading s (state ss false d unit cr (room - length js) (tidy ts (cs ++ c ∷ []) (is ++ js))) e
 
 abbrev pub TailNot : List ℕ → ℕ → Bool → ℕ → ℕ → ℕ → ℕ → ℕ → Type 0
 TailNot s p d unit room pl n q =
@@ -137,7 +135,7 @@ end-stops s p n q h t z = λ d unit cr ir l. turn s _ p h ∙ rw (t, ne-eqb n 4 
 pub end-more : (s : List ℕ) (p k b e : ℕ) (long : Bool) → p ≤ length s → tokenAt s p ≡ Got k b e long → EndRead s p (mark.Refused 4 b)
 end-more s p k b e long h tok = λ d unit cr ir l. goes s _ p k b e long (bad 4 b) h tok refl
 
--- THE CELL WORD in hand
+-- THE WORD CELL in hand, where it has to stand: behind the bracket of a cell by itself, and in a file
 module _ (s : List ℕ) (p k b e v : ℕ) (long : Bool) (i : InHand s (hand.At p k b e long v)) (d : Bool) where
   a-word : v ≡ 53 → k ≡ 7
   a-word z = by (eqb k 7) refl
@@ -149,17 +147,14 @@ module _ (s : List ℕ) (p k b e v : ℕ) (long : Bool) (i : InHand s (hand.At p
   its-key : v ≡ 53 → keyOf (part b e s) ≡ 53
   its-key z = let y : v ≡ keyOf (part b e s) = i .2 ∙ rw (eq-eqb k 7 (a-word z)) in sym y ∙ z
 
-  pub cell-full : v ≡ 53 → (ss : Stack) (unit ir : ℕ) (l : Log) → reading s (state (non (header 10 d) ∷ ss) true d unit 0 ir l) p ≡ bad 9 b
-  unfolding alts
-  cell-full z ss unit ir l =
+  pub word-full : v ≡ 53 → (ss : Stack) (unit ir : ℕ) (l : Log) → reading s (state (lit (key 53 ‼ cell) ∷ ss) true d unit 0 ir l) p ≡ bad 9 b
+  word-full z ss unit ir l =
       let f = short s p k b e long keys (i .0) (i .1) (a-word z) (rw (its-key z) (omega arith)) in
       goes s _ p k b e long (bad 9 b) (i .0) (i .1) (rw (eq-eqb k 7 (a-word z), its-key z, f))
 
-  pub cell-word : v ≡ 53 → (ss : Stack) (unit cr ir : ℕ) (ts : List ℕ) (cs : List Cell) (is : List Item) → (cr ≡ 0 → ⊥) →
-      reading s (state (non (header 10 d) ∷ ss) true d unit cr ir (tidy ts cs is)) p ≡
-      reading s (state (cellTail d ++ non (more d) ∷ ss) false d unit (cr - 1) ir (begunAt b ts cs is)) e
-  unfolding alts
-  cell-word z ss unit cr ir ts cs is n =
+  pub word-begins : v ≡ 53 → (ss : Stack) (unit cr ir : ℕ) (ts : List ℕ) (cs : List Cell) (is : List Item) → (cr ≡ 0 → ⊥) →
+      reading s (state (lit (key 53 ‼ cell) ∷ ss) true d unit cr ir (tidy ts cs is)) p ≡ reading s (state ss false d unit (cr - 1) ir (begunAt b ts cs is)) e
+  word-begins z ss unit cr ir ts cs is n =
       let f = short s p k b e long keys (i .0) (i .1) (a-word z) (rw (its-key z) (omega arith)) in
       let y : eqb k 2 ≡ false = rw (a-word z) refl in
       goes s _ p k b e long (fine _) (i .0) (i .1) (rw (eq-eqb k 7 (a-word z), its-key z, f, ne-eqb cr 0 n, y))
@@ -169,18 +164,41 @@ module _ (s : List ℕ) (p k b e v : ℕ) (long : Bool) (i : InHand s (hand.At p
     where
       x : ℕ
       x = keyOf (part b e s)
+
       same : v ≡ x
       same = i .2 ∙ rw (eq-eqb k 7 q)
+
       by : (f : Bool) → leb 53 x ≡ f → (g : Bool) → leb x 53 ≡ g → and (leb 53 x) (leb x 53) ≡ false
       by true f true g = absurd (n (same ∙ (let a = leb-true 53 x f in let c = leb-true x 53 g in omega arith)))
       by true f false g = rw (f, g)
       by false f g c = rw f
 
-  pub cell-wrong : (w : ℕ) → (v ≡ 53 → ⊥) → w ≡ wrongly true k (part b e s) → (ss : Stack) (unit cr ir : ℕ) (l : Log) →
-      reading s (state (non (header 10 d) ∷ ss) true d unit cr ir l) p ≡ bad w b
-  unfolding alts
-  cell-wrong w n q ss unit cr ir l = by (eqb k 7) refl
+  pub word-wrong : (w : ℕ) → (v ≡ 53 → ⊥) → w ≡ wrongly true k (part b e s) → (ss : Stack) (unit cr ir : ℕ) (l : Log) →
+      reading s (state (lit (key 53 ‼ cell) ∷ ss) true d unit cr ir l) p ≡ bad w b
+  word-wrong w n q ss unit cr ir l = by (eqb k 7) refl
     where
-      by : (f : Bool) → eqb k 7 ≡ f → reading s (state (non (header 10 d) ∷ ss) true d unit cr ir l) p ≡ bad w b
+      by : (f : Bool) → eqb k 7 ≡ f → reading s (state (lit (key 53 ‼ cell) ∷ ss) true d unit cr ir l) p ≡ bad w b
       by true f = goes s _ p k b e long (bad w b) (i .0) (i .1) (rw (q, f, not-cell n (eqb-true k 7 f), f))
       by false f = goes s _ p k b e long (bad w b) (i .0) (i .1) (rw (q, f, f))
+
+  -- in a file it is the last that may stand behind a header entry's bracket
+  last-head : (ss : Stack) (unit cr ir : ℕ) (l : Log) →
+      reading s (state (non (header 10 d) ∷ ss) true d unit cr ir l) p ≡
+      reading s (state (lit (key 53 ‼ cell) ∷ cellTail d ++ non (more d) ∷ ss) true d unit cr ir l) p
+  unfolding alts
+  last-head ss unit cr ir l =
+      goes s _ p k b e long _ (i .0) (i .1)
+      (heads (header 10 d) (key 53 ‼ cell ⇒ cellTail d ++ non (more d) ∷ []) ss true d unit cr ir l (placed s k b e long) refl)
+      ∙ sym (goes s _ p k b e long _ (i .0) (i .1) refl)
+
+  pub cell-full : v ≡ 53 → (ss : Stack) (unit ir : ℕ) (l : Log) → reading s (state (non (header 10 d) ∷ ss) true d unit 0 ir l) p ≡ bad 9 b
+  cell-full z ss unit ir l = last-head ss unit 0 ir l ∙ word-full z _ unit ir l
+
+  pub cell-word : v ≡ 53 → (ss : Stack) (unit cr ir : ℕ) (ts : List ℕ) (cs : List Cell) (is : List Item) → (cr ≡ 0 → ⊥) →
+      reading s (state (non (header 10 d) ∷ ss) true d unit cr ir (tidy ts cs is)) p ≡
+      reading s (state (cellTail d ++ non (more d) ∷ ss) false d unit (cr - 1) ir (begunAt b ts cs is)) e
+  cell-word z ss unit cr ir ts cs is n = last-head ss unit cr ir _ ∙ word-begins z _ unit cr ir ts cs is n
+
+  pub cell-wrong : (w : ℕ) → (v ≡ 53 → ⊥) → w ≡ wrongly true k (part b e s) → (ss : Stack) (unit cr ir : ℕ) (l : Log) →
+      reading s (state (non (header 10 d) ∷ ss) true d unit cr ir l) p ≡ bad w b
+  cell-wrong w n q ss unit cr ir l = last-head ss unit cr ir l ∙ word-wrong w n q _ unit cr ir l

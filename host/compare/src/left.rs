@@ -177,9 +177,9 @@ pub fn by_second(case: &Case) -> Left {
     }
 }
 
-/// From, to of each of the header's texts: "a missing one, or a refused file: 0,0".
+/// From, to of each of the header's texts: "a missing one, or a refused file: 0,0". A single cell has none.
 fn second_header(case: &Case, file: Option<&File>) -> Vec<(u64, u64)> {
-    let Case::ReadFile { .. } = case else {
+    let (Case::ReadFile { .. } | Case::ReadCell { .. }) = case else {
         return Vec::new();
     };
     let part = |keyword: &&str| {
@@ -222,7 +222,7 @@ pub fn by_proved(case: &Case) -> Left {
     Left { answer, header, tokens: proved_tokens(case), tables, incoming_tables, sheet }
 }
 
-/// The answer's numbers, and the places of the header's texts where a file is read.
+/// The answer's numbers, and the places of the header's texts where a text is read.
 fn proved_answer(
     case: &Case,
     tables: &mut Tables,
@@ -230,13 +230,9 @@ fn proved_answer(
     sheet: &mut [u8],
 ) -> (Vec<u64>, Vec<(u64, u64)>) {
     let words = match case {
-        Case::ReadFile { text, .. } => {
-            let answer = proved::read_file(text, tables);
-            let header = answer.texts.chunks(2).map(|part| (part[0] as u64, part[1] as u64)).collect();
-            return (read_words(answer), header);
-        }
+        Case::ReadFile { text, .. } => return read_words(proved::read_file(text, tables)),
         Case::ReadCell { text, divider, scale, .. } => {
-            read_words(proved::read_cell(text, *divider == b'/', u64::from(*scale), tables))
+            return read_words(proved::read_cell(text, *divider == b'/', u64::from(*scale), tables));
         }
         Case::CheckSheet { bytes } => {
             let answer = proved::check_sheet(bytes);
@@ -251,8 +247,9 @@ fn proved_answer(
     (words, Vec::new())
 }
 
-fn read_words(answer: proved::ReadAnswer) -> Vec<u64> {
-    vec![answer.number, answer.place, answer.cells, answer.entries, answer.slash, answer.scale]
+fn read_words(answer: proved::ReadAnswer) -> (Vec<u64>, Vec<(u64, u64)>) {
+    let header = answer.texts.chunks(2).map(|part| (part[0] as u64, part[1] as u64)).collect();
+    (vec![answer.number, answer.place, answer.cells, answer.entries, answer.slash, answer.scale], header)
 }
 
 fn result_words(answer: proved::ResultAnswer) -> Vec<u64> {

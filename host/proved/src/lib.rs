@@ -68,7 +68,8 @@ pub fn read_file(text: &[u8], tables: &mut Tables) -> ReadAnswer {
     }
 }
 
-/// Reads a single cell, with the divider (`/` if `slash`) and the time scale of its file.
+/// Reads a single cell, with the divider (`/` if `slash`) and the time scale of its file, 0 to 17. Another scale is answered
+/// with number 255 at place 0.
 pub fn read_cell(text: &[u8], slash: bool, scale: u64, tables: &mut Tables) -> ReadAnswer {
     let Tables { cells, entries } = tables;
     unsafe {

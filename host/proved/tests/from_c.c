@@ -71,6 +71,19 @@ static void reading_a_cell(void) {
     boomcrutch_read read = boomcrutch_read_cell(BYTES(CELL("1") " x"), 0, 6, WORDS(cells), WORDS(entries));
     expect("refused", read.number, 4);
     expect("place", read.place, sizeof(CELL("1")));
+    expect("a refused cell's table", cells[0], UINT64_C(0x5A5A5A5A5A5A5A5A));
+    read = boomcrutch_read_cell(BYTES(CELL("1")), 2, 6, WORDS(cells), WORDS(entries));
+    expect("no divider", read.number, 255);
+    read = boomcrutch_read_cell(BYTES(CELL("1")), 0, 18, WORDS(cells), WORDS(entries));
+    expect("no time scale", read.number, 255);
+    expect("nothing read", read.cells + read.entries + read.slash + read.scale + read.place, 0);
+    expect("the table as lent", cells[0], UINT64_C(0x5A5A5A5A5A5A5A5A));
+    read = boomcrutch_read_cell(BYTES(CELL("0.001")), 1, 17, WORDS(cells), WORDS(entries));
+    expect("a cell", read.number, 0);
+    expect("its entries", read.entries, 1);
+    expect("the divider given", read.slash, 1);
+    expect("the time scale given", read.scale, 17);
+    expect("its minimum", entries[10], UINT64_C(100000000000000));
 }
 #endif
 

@@ -68,7 +68,7 @@ returns-3 c =
     let read-all2 = c .before .before .before .before .read-all2 in
     let if1 = c .before .before .before .before .before .before .before .before .before .before .before .before .before .before .before .before .before .before .before .before .before .before .if1 in
     let a = rw (answer2 .given .1) at (read-all .ensures) in
-    file-read _ (now (args .text)) (length (now (args .cells)) / 7) (length (now (args .entries)) / 28) (answer2 .given .0 .0) (answer2 .given .0 .1 .0) _ _ _ _ _ _ _ _ (read-all2 .last .1 .1 .1 .1 .1 .1 .1 .0) _ (read-all2 .result .slash) _ (read-all2 .result .unit) (read-all2 .result .answer) _ (short-enough (length (now (args .cells)) / 7) (length (now (args .entries)) / 28) (now (args .text)) (if1 .left)) a (read-all2 .ensures) (refl, refl, refl, refl)
+    file-read _ _ (length (now (args .cells)) / 7) (length (now (args .entries)) / 28) (answer2 .given .0 .0) (answer2 .given .0 .1 .0) _ _ _ _ _ _ _ (read-all2 .last .1 .1 .1 .1 .1 .1 .1 .0) _ (read-all2 .result .slash) _ (read-all2 .result .unit) (read-all2 .result .answer) _ (short-enough (length (now (args .cells)) / 7) (length (now (args .entries)) / 28) (now (args .text)) (if1 .left)) a (read-all2 .ensures) (refl, refl, refl, refl)
 
 pub read-file-spec : {M : Type 1} → statement M
 read-file-spec =
