@@ -1,3 +1,4 @@
 pub mod Says
 pub mod Judged
 pub mod Bytes
+pub mod Below
