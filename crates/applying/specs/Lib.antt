@@ -2,3 +2,4 @@ pub mod Says
 pub mod Judged
 pub mod Bytes
 pub mod Below
+pub mod Instances
