@@ -169,3 +169,45 @@ module _ (b : List ℕ) (bytes : Bytes b) (n m f : ℕ) (good : checkOf b ≡ Go
       let g = matches (pathAt b p) (entryOf word text slash i) in
       rw (arc-is b bytes n m f good g l h)
       (not-so _ (λ x. arc-absent b (wants text slash word i (pathAt b p)) m f l e h (means-wants text slash word i (pathAt b p) (keyAt b (place b l f)) d x)))
+
+  module _ (laws : ArcLaws b n m f (entryOf word text slash i) rows (eqb (i .head .group) 73)) where
+    -- the refusal in an instance, by the arcs that are meant there
+    refusal-by : (p : ℕ) (now : Values) (hit : ℕ → Bool) → ((j : ℕ) → j < m → means p j ≡ hit j)
+        → refusalAt (recordsOf (sheetAt b n m f)) (pathAt b p) (entryOf word text slash i) now
+        ≡ firstOf (not (anyOf hit (below m))) (anyOf (λ j. and (hit j) (arcFails (entryOf word text slash i) 15 now j)) (below m))
+        (anyOf (λ j. and (hit j) (arcFails (entryOf word text slash i) 16 now j)) (below m))
+    unfolding refusalAt failsAt
+    refusal-by p now hit h =
+        let e = entryOf word text slash i in
+        rw (any-arc b bytes n m f good (matches (pathAt b p) e), arcs-length b bytes n m f good, below-cong (means p) hit m h,
+        below-cong (λ j. and (means p j) (arcFails e 15 now j)) (λ j. and (hit j) (arcFails e 15 now j)) m (λ j l. rw (h j l)),
+        below-cong (λ j. and (means p j) (arcFails e 16 now j)) (λ j. and (hit j) (arcFails e 16 now j)) m (λ j l. rw (h j l)))
+
+    -- what the program refuses in an instance is what the history refuses there
+    pub in-refusal : (p : ℕ) (now : Values) → Fine now
+        → refusalIn b text slash n m f (i .head) rows (spelled (sheetAt b n m f) now) p
+        ≡ refusalAt (recordsOf (sheetAt b n m f)) (pathAt b p) (entryOf word text slash i) now
+    unfolding refusalIn deviceRefusal foundRefusal firstOf
+    in-refusal p now fine = go (eqb (i .head .kind) 4) refl
+      where
+        other : (x : Found) → arcOf b text slash n m f (i .head) rows p ≡ x → eqb (i .head .kind) 4 ≡ false
+            → foundRefusal b text slash n m f (i .head) rows (spelled (sheetAt b n m f) now) x
+            ≡ refusalAt (recordsOf (sheetAt b n m f)) (pathAt b p) (entryOf word text slash i) now
+        other (At q) a d =
+            let e = entryOf word text slash i in
+            let w = found-is p q d a in
+            let j = w .0 in
+            rw (w .2, refusal-by p now (λ l. eqb l j) (λ l x. w .3 l), below-some (λ l. eqb l j) m j (w .1) (eqb-self j),
+            below-one (arcFails e 15 now) m j (w .1), below-one (arcFails e 16 now) m j (w .1)) (laws .arc-refusal now fine j (w .1))
+        other Nothing a d =
+            rw (refusal-by p now (λ l. false) (absent-is p d a), below-none (λ l. false) m (λ j h. refl))
+        go : (t : Bool) → eqb (i .head .kind) 4 ≡ t
+            → pick t (deviceRefusal b text slash n m f (i .head) rows (spelled (sheetAt b n m f) now) p)
+            (foundRefusal b text slash n m f (i .head) rows (spelled (sheetAt b n m f) now) (arcOf b text slash n m f (i .head) rows p))
+            ≡ refusalAt (recordsOf (sheetAt b n m f)) (pathAt b p) (entryOf word text slash i) now
+        go true d =
+            let hit : ℕ → Bool = λ k. deviceHit b text slash n m f (i .head) rows p (place b k f) in
+            rw (some-any hit m, laws .hits-refusal now fine hit m (omega arith), refusal-by p now hit (λ j h. sym (hit-is p j h d)))
+            (first-none (anyOf hit (below m)) (anyOf (λ j. and (hit j) (arcFails (entryOf word text slash i) 15 now j)) (below m))
+            (anyOf (λ j. and (hit j) (arcFails (entryOf word text slash i) 16 now j)) (below m)))
+        go false d = other (arcOf b text slash n m f (i .head) rows p) refl d
