@@ -34,6 +34,10 @@ pub and-none : (a : Bool) → and a false ≡ false
 and-none true = refl
 and-none false = refl
 
+pub and-all : (a : Bool) → and a true ≡ a
+and-all true = refl
+and-all false = refl
+
 pub or-none : (a : Bool) → or a false ≡ a
 or-none true = refl
 or-none false = refl

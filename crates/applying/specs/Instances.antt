@@ -34,7 +34,7 @@ use Rattle.amounts.specs.Laws.{firstOf}
 use Rattle.applying.specs.Says.{nameAt, entryOf}
 use Rattle.applying.specs.Judged.{supply, arcFails, changedAt, keyIs, arcIs, failsAt, refusalAt}
 use Rattle.applying.specs.Bytes.{leastOf, writtenOf, someOf, deviceHit, arcOf, foundRefusal, foundWritten, deviceRefusal, deviceWritten, refusalIn, writtenIn}
-use Rattle.applying.specs.Below.{bool-same, not-so, eqb-self, below-cong, below-none, below-some, below-one, any-at, past, some-any, first-none}
+use Rattle.applying.specs.Below.{bool-same, not-so, and-all, and-none, eqb-self, below-cong, below-none, below-some, below-one, any-at, past, some-any, first-none}
 
 -- values that a sheet may hold
 abbrev pub Fine : Values → Type 0
@@ -211,3 +211,41 @@ module _ (b : List ℕ) (bytes : Bytes b) (n m f : ℕ) (good : checkOf b ≡ Go
             (first-none (anyOf hit (below m)) (anyOf (λ j. and (hit j) (arcFails (entryOf word text slash i) 15 now j)) (below m))
             (anyOf (λ j. and (hit j) (arcFails (entryOf word text slash i) 16 now j)) (below m)))
         go false d = other (arcOf b text slash n m f (i .head) rows p) refl d
+
+    -- where nothing is refused, what it writes is what the history leaves
+    pub in-written : (p : ℕ) (now : Values) → Fine now → refusalIn b text slash n m f (i .head) rows (spelled (sheetAt b n m f) now) p ≡ 0
+        → (writtenIn b text slash n m f (i .head) rows (spelled (sheetAt b n m f) now) p
+        ≡ spelled (sheetAt b n m f) (changedAt (entryOf word text slash i) (means p) now))
+        × Fine (changedAt (entryOf word text slash i) (means p) now)
+    unfolding refusalIn writtenIn deviceRefusal deviceWritten foundRefusal foundWritten
+    in-written p now fine = go (eqb (i .head .kind) 4) refl
+      where
+        other : (x : Found) → arcOf b text slash n m f (i .head) rows p ≡ x → eqb (i .head .kind) 4 ≡ false
+            → foundRefusal b text slash n m f (i .head) rows (spelled (sheetAt b n m f) now) x ≡ 0
+            → (foundWritten b text slash n m f (i .head) rows (spelled (sheetAt b n m f) now) x
+            ≡ spelled (sheetAt b n m f) (changedAt (entryOf word text slash i) (means p) now))
+            × Fine (changedAt (entryOf word text slash i) (means p) now)
+        other (At q) a d z =
+            let w = found-is p q d a in
+            let same : means p ≡ (λ l. eqb l (w .0)) = fun-ext (w .3) in
+            rw (w .2, same) (laws .arc-written now fine (w .0) (w .1) (rw (w .2) at z))
+        other Nothing a d z = absurd (omega arith)
+        hit : ℕ → Bool
+        hit k = deviceHit b text slash n m f (i .head) rows p (place b k f)
+        all : eqb (i .head .kind) 4 ≡ true → (l : ℕ) (t : Bool) → ltb l m ≡ t → means p l ≡ and (hit l) t
+        all d l true x = sym (hit-is p l (ltb-true l m x) d) ∙ sym (and-all (hit l))
+        all d l false x = arc-past b bytes n m f good (matches (pathAt b p) (entryOf word text slash i)) l (ltb-false l m x) ∙ sym (and-none (hit l))
+        least : (t : Bool) → (x : ℕ) → pick t x 14 ≡ 0 → x ≡ 0
+        least true x z = z
+        least false x z = absurd (omega arith)
+        go : (t : Bool) → eqb (i .head .kind) 4 ≡ t
+            → pick t (deviceRefusal b text slash n m f (i .head) rows (spelled (sheetAt b n m f) now) p)
+            (foundRefusal b text slash n m f (i .head) rows (spelled (sheetAt b n m f) now) (arcOf b text slash n m f (i .head) rows p)) ≡ 0
+            → (pick t (deviceWritten b text slash n m f (i .head) rows (spelled (sheetAt b n m f) now) p)
+            (foundWritten b text slash n m f (i .head) rows (spelled (sheetAt b n m f) now) (arcOf b text slash n m f (i .head) rows p))
+            ≡ spelled (sheetAt b n m f) (changedAt (entryOf word text slash i) (means p) now))
+            × Fine (changedAt (entryOf word text slash i) (means p) now)
+        go true d z =
+            let same : means p ≡ (λ l. and (hit l) (ltb l m)) = fun-ext (λ l. all d l (ltb l m) refl) in
+            rw same (laws .hits-written now fine hit m (omega arith) (least (someOf hit m) _ z))
+        go false d z = other (arcOf b text slash n m f (i .head) rows p) refl d z
