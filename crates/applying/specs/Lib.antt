@@ -3,3 +3,4 @@ pub mod Judged
 pub mod Bytes
 pub mod Below
 pub mod Instances
+pub mod Addressed

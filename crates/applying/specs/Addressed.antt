@@ -1,0 +1,70 @@
+-- Which instances a cell means, and what its entry does in all of them: bytes against history.
+-- Assumes nothing.
+use Prim.Native.Nat.{ℕ, zero, suc, _<_, _≤_}
+use mathlib.Core.Path.{_≡_, refl, sym, ap, _∙_, fun-ext}
+use mathlib.Core.Bool.{Bool, true, false, not}
+use mathlib.Core.List.{List, [], _∷_}
+use mathlib.Core.Option.{Option, none, some}
+use native.Mathlib.Omega.{arith}
+use lib.Dec.{eqb, ltb}
+use lib.ListN.{length}
+use borrow.Author.Tests.{ltb-true, ltb-false}
+use Rattle.classes.specs.Choice.{pick, and, or}
+use Rattle.wire.specs.Wire.{Bytes}
+use Rattle.names.specs.Order.{sameText}
+use Rattle.names.specs.Name.{full, sameName, oneBelow, both}
+use Rattle.names.specs.Laws.{name-exactly, same-self, path-determined}
+use Rattle.sheetform.specs.Form.{keyAt, pathAt, typeAt, checkOf}
+use Rattle.sheetform.specs.declared.SheetCheck.the-variants.{Good}
+use Rattle.sheetlaws.specs.Sheet.{inEnd, nth, place}
+use Rattle.sheet.specs.Find.{findInstance, instance-found, instance-absent}
+use Rattle.sheet.specs.declared.Found.{Found}
+use Rattle.sheet.specs.declared.Found.the-variants.{At, Nothing}
+use Rattle.grammar.specs.Meaning.{Item}
+use Rattle.history.specs.Events.{anyOf, final, step}
+use Rattle.history.specs.EventLaws.{clash}
+use Rattle.history.specs.Sheet.{Instance, Key, Records, Values, Entry, at, every, Cell, partIs, unapplied, applies, lacks, cellNumber, endsAt, matches, below, arcSlots, each}
+use Rattle.history.specs.Addressing.{matches-path}
+use Rattle.slots.specs.Slots.{asKey, recordsOf, spelled, sheetAt}
+use Rattle.slots.specs.Found.{instance-at, instances-length, instance-once}
+use Rattle.amounts.specs.Amounts.{lesser}
+use Rattle.amounts.specs.Laws.{firstOf}
+use Rattle.applying.specs.Says.{nameAt, entryOf}
+use Rattle.applying.specs.Judged.{any-and, any-below, supply, arcFails, changedAt, arcIs, failsAt, refusalAt, refusalOf}
+use Rattle.applying.specs.Bytes.{leastOf, writtenOf, refusalIn, writtenIn, refusalEvery, writtenEvery}
+use Rattle.applying.specs.Below.{not-so, and-all, and-none, or-none, below-cong, below-none, below-some, any-at, least-first}
+use Rattle.applying.specs.Instances.{Fine, ArcLaws, arc-is, arc-past, in-refusal, in-written}
+
+module _ (b : List ℕ) (bytes : Bytes b) (n m f : ℕ) (good : checkOf b ≡ Good n m f) where
+  abbrev records : Records
+  records = recordsOf (sheetAt b n m f)
+
+  -- instance number k
+  abbrev numbered : ℕ → Instance
+  numbered k = record { path = pathAt b (nth (inEnd b) k 12); type = typeAt b (nth (inEnd b) k 12) }
+
+  -- some instance passes the test
+  any-instance : (g : Instance → Bool) → anyOf g (records .instances) ≡ anyOf (λ k. g (numbered k)) (below n)
+  any-instance g =
+      any-at g numbered (records .instances) (λ j h. instance-at b bytes n m f good j (rw (instances-length b bytes n m f good) at h))
+      ∙ rw (instances-length b bytes n m f good)
+
+  module _ {Word : Type 0} (c : Cell Word) where
+    -- A cell with a path: the number of its refusal is what the search for its instance gives.
+
+    part-at : (path : List ℕ) (k : ℕ) → c .part ≡ at path → applies c (numbered k) ≡ and (sameName (numbered k .path) path) (sameText (numbered k .type) (c .type))
+    unfolding applies partIs
+    part-at path k e = rw e
+
+    -- at another path it does not apply
+    other-path : (path : List ℕ) (k : ℕ) → (pathAt b (nth (inEnd b) k 12) ≡ path → ⊥) → sameName (numbered k .path) path ≡ false
+    other-path path k x = not-so _ (λ e. x (name-exactly _ _ .0 e))
+
+    -- 12, 'no such instance'
+    pub cell-absent : (path : List ℕ) → c .part ≡ at path → findInstance b path n 12 ≡ Nothing → cellNumber records c ≡ some 12
+    unfolding cellNumber unapplied
+    cell-absent path e g =
+        rw (any-instance (applies c), below-none (λ k. applies c (numbered k)) n
+        (λ k h. rw (part-at path k e, other-path path k (λ x. instance-absent b path n 12 k g h x))), e,
+        any-instance (λ (i : Instance). sameName (i .path) path),
+        below-none (λ k. sameName (numbered k .path) path) n (λ k h. other-path path k (λ x. instance-absent b path n 12 k g h x)))
