@@ -68,3 +68,46 @@ module _ (b : List ℕ) (bytes : Bytes b) (n m f : ℕ) (good : checkOf b ≡ Go
         (λ k h. rw (part-at path k e, other-path path k (λ x. instance-absent b path n 12 k g h x))), e,
         any-instance (λ (i : Instance). sameName (i .path) path),
         below-none (λ k. sameName (numbered k .path) path) n (λ k h. other-path path k (λ x. instance-absent b path n 12 k g h x)))
+
+    -- the instance that is found
+    pub cell-found : (path : List ℕ) (q : ℕ) → findInstance b path n 12 ≡ At q → (k : ℕ) × (k < n) × (q ≡ nth (inEnd b) k 12) × (pathAt b q ≡ path)
+    cell-found path q g = instance-found b path n 12 q g
+
+    -- 13, 'type differs'
+    pub cell-differs : (path : List ℕ) (q : ℕ) → c .part ≡ at path → findInstance b path n 12 ≡ At q → sameText (typeAt b q) (c .type) ≡ false
+        → cellNumber records c ≡ some 13
+    unfolding cellNumber unapplied
+    cell-differs path q e g d =
+        let w = cell-found path q g in
+        by (w .0) (w .1) (rw (w .2) at (w .3)) (rw (w .2) at d)
+      where
+        by : (k : ℕ) → k < n → numbered k .path ≡ path → sameText (numbered k .type) (c .type) ≡ false
+            → pick (anyOf (applies c) (records .instances)) none (unapplied (records .instances) (c .part)) ≡ some 13
+        by k h x y =
+            rw (any-instance (applies c), below-none (λ l. applies c (numbered l)) n (λ l r. rw (part-at path l e) (not-both l r _ refl)), e,
+            any-instance (λ (i : Instance). sameName (i .path) path),
+            below-some (λ l. sameName (numbered l .path) path) n k h (rw x (same-self path)))
+          where
+            not-both : (l : ℕ) → l < n → (t : Bool) → sameName (numbered l .path) path ≡ t → and t (sameText (numbered l .type) (c .type)) ≡ false
+            not-both l r true z = rw (instance-once b bytes n m f good l k r h (name-exactly _ _ .0 z ∙ sym x)) y
+            not-both l r false z = refl
+
+    -- its type is the cell's: no refusal
+    pub cell-same : (path : List ℕ) (q : ℕ) → c .part ≡ at path → findInstance b path n 12 ≡ At q → sameText (typeAt b q) (c .type) ≡ true
+        → cellNumber records c ≡ none
+    unfolding cellNumber
+    cell-same path q e g d =
+        let w = cell-found path q g in
+        let k = w .0 in
+        let x : sameName (numbered k .path) path ≡ true = rw (rw (w .2) at (w .3)) (same-self path) in
+        let y : sameText (numbered k .type) (c .type) ≡ true = rw (w .2) at d in
+        rw (any-instance (applies c), below-some (λ l. applies c (numbered l)) n k (w .1) (rw (part-at path k e, x, y)))
+
+    -- '`*` means every instance of that type; with none the cell does nothing'
+    pub cell-every : c .part ≡ every → cellNumber records c ≡ none
+    unfolding cellNumber unapplied
+    cell-every e = either (anyOf (applies c) (records .instances)) (unapplied (records .instances) (c .part)) (rw e)
+      where
+        either : (t : Bool) (o : Option ℕ) → o ≡ none → pick t none o ≡ none
+        either true o z = refl
+        either false o z = z
