@@ -111,3 +111,32 @@ module _ (b : List ℕ) (bytes : Bytes b) (n m f : ℕ) (good : checkOf b ≡ Go
         either : (t : Bool) (o : Option ℕ) → o ≡ none → pick t none o ≡ none
         either true o z = refl
         either false o z = z
+
+    -- A cell with the path of instance number k and its type applies to that one only.
+
+    one-of : (k : ℕ) → k < n → c .part ≡ at (numbered k .path) → sameText (numbered k .type) (c .type) ≡ true
+        → (F : List ℕ → Bool) → anyOf (λ (i : Instance). and (applies c i) (F (i .path))) (records .instances) ≡ F (numbered k .path)
+    one-of k h e d F =
+        let x : applies c (numbered k) ≡ true = rw (part-at (numbered k .path) k e, same-self (numbered k .path), d) in
+        any-instance (λ (i : Instance). and (applies c i) (F (i .path)))
+        ∙ below-cong (λ l. and (applies c (numbered l)) (F (numbered l .path))) (λ l. and (applies c (numbered l)) (F (numbered k .path))) n (λ l r. same l _ refl)
+        ∙ any-and (λ l. applies c (numbered l)) (F (numbered k .path)) (below n)
+        ∙ rw (below-some (λ l. applies c (numbered l)) n k h x)
+      where
+        same : (l : ℕ) (t : Bool) → applies c (numbered l) ≡ t → and t (F (numbered l .path)) ≡ and t (F (numbered k .path))
+        same l true z = rw (name-exactly _ _ .0 (both (sameName (numbered l .path) (numbered k .path)) _ (rw (part-at (numbered k .path) l e) at z) .0))
+        same l false z = refl
+
+    -- so its entry is refused as in that one
+    pub one-refusal : (k : ℕ) → k < n → c .part ≡ at (numbered k .path) → sameText (numbered k .type) (c .type) ≡ true
+        → (e : Entry Word) (now : Values) → refusalOf records c e now ≡ refusalAt records (numbered k .path) e now
+    unfolding refusalOf refusalAt lacks
+    one-refusal k h p d e now =
+        rw (one-of k h p d (λ x. not (anyOf (matches x e) (records .arcs))), one-of k h p d (λ x. failsAt records x e 15 now),
+        one-of k h p d (λ x. failsAt records x e 16 now))
+
+    -- and means the arcs that it means there
+    pub one-applied : (k : ℕ) → k < n → c .part ≡ at (numbered k .path) → sameText (numbered k .type) (c .type) ≡ true
+        → (e : Entry Word) (j : ℕ)
+        → anyOf (λ (i : Instance). and (applies c i) (arcIs records (matches (i .path) e) j)) (records .instances) ≡ arcIs records (matches (numbered k .path) e) j
+    one-applied k h p d e j = one-of k h p d (λ x. arcIs records (matches x e) j)
