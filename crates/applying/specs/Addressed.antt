@@ -140,3 +140,34 @@ module _ (b : List ℕ) (bytes : Bytes b) (n m f : ℕ) (good : checkOf b ≡ Go
         → (e : Entry Word) (j : ℕ)
         → anyOf (λ (i : Instance). and (applies c i) (arcIs records (matches (i .path) e) j)) (records .instances) ≡ arcIs records (matches (numbered k .path) e) j
     one-applied k h p d e j = one-of k h p d (λ x. arcIs records (matches x e) j)
+
+    -- `*`: it applies to the instances of its type
+
+    part-every : (k : ℕ) → c .part ≡ every → applies c (numbered k) ≡ sameText (numbered k .type) (c .type)
+    unfolding applies partIs
+    part-every k e = rw e
+
+    every-of : c .part ≡ every → (F : List ℕ → Bool)
+        → anyOf (λ (i : Instance). and (applies c i) (F (i .path))) (records .instances)
+        ≡ anyOf (λ k. and (sameText (numbered k .type) (c .type)) (F (numbered k .path))) (below n)
+    every-of e F = any-instance (λ (i : Instance). and (applies c i) (F (i .path)))
+        ∙ below-cong (λ k. and (applies c (numbered k)) (F (numbered k .path))) (λ k. and (sameText (numbered k .type) (c .type)) (F (numbered k .path))) n
+        (λ k h. rw (part-every k e))
+
+-- An entry means an arc through one instance only.
+
+matches-one : (text : List ℕ) (slash : Bool) {Word : Type 0} (word : ℕ → Word) (i : Item) (p q : List ℕ) (k : Key)
+    → matches p (entryOf word text slash i) k ≡ true → matches q (entryOf word text slash i) k ≡ true → p ≡ q
+unfolding matches entryOf endsAt oneBelow
+matches-one text slash {Word} word i p q k = by (eqb (i .head .kind) 4) refl
+  where
+    e : Entry Word
+    e = entryOf word text slash i
+    ends : (t : Bool) (name : List ℕ) → endsAt p (pick t none (some name)) (k .end2) ≡ true → endsAt q (pick t none (some name)) (k .end2) ≡ true → p ≡ q
+    ends true name x y = path-determined p q _ (sym (name-exactly _ _ .0 x) ∙ name-exactly _ _ .0 y)
+    ends false name x y = path-determined p q name (sym (name-exactly _ _ .0 x) ∙ name-exactly _ _ .0 y)
+    by : (t : Bool) → eqb (i .head .kind) 4 ≡ t → matches p e k ≡ true → matches q e k ≡ true → p ≡ q
+    by true d x y =
+        ends (eqb (i .head .to1) 0) (nameAt word text slash (i .head .from1) (i .head .to1))
+        (both (eqb (k .kind) 1) _ (rw d at x) .1) (both (eqb (k .kind) 1) _ (rw d at y) .1)
+    by false d x y = matches-path p q e k (nameAt word text slash (i .head .from1) (i .head .to1)) d (rw d) x y
