@@ -23,7 +23,7 @@ use Rattle.sheet.specs.declared.Found.the-variants.{At, Nothing}
 use Rattle.grammar.specs.Meaning.{Item}
 use Rattle.history.specs.Events.{anyOf, final, step}
 use Rattle.history.specs.EventLaws.{clash}
-use Rattle.history.specs.Sheet.{Instance, Key, Records, Values, Entry, at, every, Cell, partIs, unapplied, applies, lacks, cellNumber, endsAt, matches, below, arcSlots, each}
+use Rattle.history.specs.Sheet.{Instance, Key, Records, Slot, Values, Entry, at, every, Cell, partIs, unapplied, applies, lacks, cellNumber, endsAt, matches, below, arcSlots, each}
 use Rattle.history.specs.Addressing.{matches-path}
 use Rattle.slots.specs.Slots.{asKey, recordsOf, spelled, sheetAt}
 use Rattle.slots.specs.Found.{instance-at, instances-length, instance-once}
@@ -171,3 +171,67 @@ matches-one text slash {Word} word i p q k = by (eqb (i .head .kind) 4) refl
         ends (eqb (i .head .to1) 0) (nameAt word text slash (i .head .from1) (i .head .to1))
         (both (eqb (k .kind) 1) _ (rw d at x) .1) (both (eqb (k .kind) 1) _ (rw d at y) .1)
     by false d x y = matches-path p q e k (nameAt word text slash (i .head .from1) (i .head .to1)) d (rw d) x y
+
+-- What is changed elsewhere does not count here.
+
+module _ {Word : Type 0} (e : Entry Word) where
+  -- arcs whose values stay fail as before
+  fails-kept : (x : ℕ) (hit : ℕ → Bool) (now : Values) (j : ℕ) → hit j ≡ false → arcFails e x (changedAt e hit now) j ≡ arcFails e x now j
+  unfolding arcFails arcSlots each anyOf changedAt
+  fails-kept x hit now j h = rw h
+
+  -- changed in two steps, no arc twice
+  changed-twice : (g h : ℕ → Bool) (now : Values) → ((j : ℕ) → h j ≡ true → g j ≡ false)
+      → changedAt e h (changedAt e g now) ≡ changedAt e (λ j. or (g j) (h j)) now
+  unfolding changedAt
+  changed-twice g h now apart = fun-ext (λ (t : Slot). by t (g (t .arc)) refl (h (t .arc)) refl)
+    where
+      by : (t : Slot) (x : Bool) → g (t .arc) ≡ x → (y : Bool) → h (t .arc) ≡ y
+          → pick y (final (step (pick x (final (step (now t) (supply e t))) (now t)) (supply e t))) (pick x (final (step (now t) (supply e t))) (now t))
+          ≡ pick (or x y) (final (step (now t) (supply e t))) (now t)
+      by t true p true q = clash (sym (apart (t .arc) q) ∙ p)
+      by t true p false q = refl
+      by t false p true q = refl
+      by t false p false q = refl
+
+-- All instances of a type.
+
+module _ (b : List ℕ) (bytes : Bytes b) (n m f : ℕ) (good : checkOf b ≡ Good n m f) (text : List ℕ) (slash : Bool) {Word : Type 0} (word : ℕ → Word)
+    (i : Item) (rows : List (List ℕ)) (laws : ArcLaws b n m f (entryOf word text slash i) rows (eqb (i .head .group) 73)) where
+  abbrev whole : Records
+  whole = recordsOf (sheetAt b n m f)
+
+  abbrev place-of : ℕ → ℕ
+  place-of k = nth (inEnd b) k 12
+
+  -- the entry means arc j in instance number k
+  abbrev hits : ℕ → ℕ → Bool
+  hits k j = arcIs whole (matches (pathAt b (place-of k)) (entryOf word text slash i)) j
+
+  once : (k l j : ℕ) → k < n → l < n → hits k j ≡ true → hits l j ≡ true → k ≡ l
+  once k l j h g x y = by (ltb j m) refl
+    where
+      e : Entry Word
+      e = entryOf word text slash i
+      by : (t : Bool) → ltb j m ≡ t → k ≡ l
+      by true z =
+          let r = ltb-true j m z in
+          instance-once b bytes n m f good k l h g
+          (matches-one text slash word i _ _ (asKey (keyAt b (place b j f)))
+          (rw (arc-is b bytes n m f good (matches (pathAt b (place-of k)) e) j r) at x)
+          (rw (arc-is b bytes n m f good (matches (pathAt b (place-of l)) e) j r) at y))
+      by false z = clash (sym (arc-past b bytes n m f good (matches (pathAt b (place-of k)) e) j (ltb-false j m z)) ∙ x)
+
+  -- what is refused in all instances of the cell's type is what the history refuses
+  pub every-refusal : (c : Cell Word) → c .part ≡ every → (now : Values) → Fine now
+      → refusalEvery b text slash n m f (i .head) rows (spelled (sheetAt b n m f) now) (c .type)
+      ≡ refusalOf (recordsOf (sheetAt b n m f)) c (entryOf word text slash i) now
+  unfolding refusalEvery refusalOf refusalAt lacks
+  every-refusal c p now fine =
+      let e = entryOf word text slash i in
+      least-first (λ k. sameText (typeAt b (place-of k)) (c .type)) (λ k. not (anyOf (matches (pathAt b (place-of k)) e) (whole .arcs)))
+      (λ k. failsAt whole (pathAt b (place-of k)) e 15 now) (λ k. failsAt whole (pathAt b (place-of k)) e 16 now)
+      (λ k. refusalIn b text slash n m f (i .head) rows (spelled (sheetAt b n m f) now) (place-of k)) n
+      (λ k h. in-refusal b bytes n m f good text slash word i rows laws (place-of k) now fine)
+      ∙ rw (every-of b bytes n m f good c p (λ x. not (anyOf (matches x e) (whole .arcs))), every-of b bytes n m f good c p (λ x. failsAt whole x e 15 now),
+      every-of b bytes n m f good c p (λ x. failsAt whole x e 16 now))
