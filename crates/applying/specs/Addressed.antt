@@ -235,3 +235,33 @@ module _ (b : List ℕ) (bytes : Bytes b) (n m f : ℕ) (good : checkOf b ≡ Go
       (λ k h. in-refusal b bytes n m f good text slash word i rows laws (place-of k) now fine)
       ∙ rw (every-of b bytes n m f good c p (λ x. not (anyOf (matches x e) (whole .arcs))), every-of b bytes n m f good c p (λ x. failsAt whole x e 15 now),
       every-of b bytes n m f good c p (λ x. failsAt whole x e 16 now))
+
+  -- the arcs that it means in the instances of this type among the first k
+  abbrev upto : List ℕ → ℕ → ℕ → Bool
+  upto type k j = anyOf (λ l. and (sameText (typeAt b (place-of l)) type) (hits l j)) (below k)
+
+  upto-next : (type : List ℕ) (k : ℕ) → upto type (suc k) ≡ (λ j. or (upto type k j) (and (sameText (typeAt b (place-of k)) type) (hits k j)))
+  upto-next type k = fun-ext (λ j. any-below (λ l. and (sameText (typeAt b (place-of l)) type) (hits l j)) k)
+
+  -- an arc of instance number k is none of those before
+  elsewhere : (type : List ℕ) (k j : ℕ) → k < n → hits k j ≡ true → upto type k j ≡ false
+  elsewhere type k j h x =
+      below-none (λ l. and (sameText (typeAt b (place-of l)) type) (hits l j)) k
+      (λ l r. rw (not-so (hits l j) (λ y. let z = once l k j (omega arith) h y x in omega arith)) (and-none (sameText (typeAt b (place-of l)) type)))
+
+  -- so what was changed there refuses nothing here
+  kept : (type : List ℕ) (k : ℕ) → k < n → (now : Values)
+      → refusalAt whole (pathAt b (place-of k)) (entryOf word text slash i) (changedAt (entryOf word text slash i) (upto type k) now)
+      ≡ refusalAt whole (pathAt b (place-of k)) (entryOf word text slash i) now
+  unfolding refusalAt failsAt
+  kept type k h now =
+      let e = entryOf word text slash i in
+      rw (below-cong (λ j. and (hits k j) (arcFails e 15 (changedAt e (upto type k) now) j)) (λ j. and (hits k j) (arcFails e 15 now j)) (length (whole .arcs))
+      (λ j r. by 15 j (hits k j) refl),
+      below-cong (λ j. and (hits k j) (arcFails e 16 (changedAt e (upto type k) now) j)) (λ j. and (hits k j) (arcFails e 16 now j)) (length (whole .arcs))
+      (λ j r. by 16 j (hits k j) refl))
+    where
+      by : (x j : ℕ) (t : Bool) → hits k j ≡ t → and t (arcFails (entryOf word text slash i) x (changedAt (entryOf word text slash i) (upto type k) now) j)
+          ≡ and t (arcFails (entryOf word text slash i) x now j)
+      by x j true z = fails-kept (entryOf word text slash i) x (upto type k) now j (elsewhere type k j h z)
+      by x j false z = refl
