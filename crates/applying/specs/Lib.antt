@@ -4,3 +4,6 @@ pub mod Bytes
 pub mod Ready
 pub mod Rows
 pub mod Arcs
+pub mod Below
+pub mod Instances
+pub mod Addressed
