@@ -32,7 +32,7 @@ use Rattle.amounts.specs.Laws.{firstOf}
 use Rattle.applying.specs.Says.{nameAt, entryOf}
 use Rattle.applying.specs.Judged.{any-and, any-below, supply, arcFails, changedAt, arcIs, failsAt, refusalAt, refusalOf}
 use Rattle.applying.specs.Bytes.{leastOf, writtenOf, refusalIn, writtenIn, refusalEvery, writtenEvery}
-use Rattle.applying.specs.Below.{not-so, and-all, and-none, or-none, below-cong, below-none, below-some, any-at, least-first}
+use Rattle.applying.specs.Below.{not-so, and-all, and-none, or-none, below-cong, below-none, below-some, any-at, least-first, lesser-none}
 use Rattle.applying.specs.Instances.{Fine, ArcLaws, arc-is, arc-past, in-refusal, in-written}
 
 module _ (b : List ℕ) (bytes : Bytes b) (n m f : ℕ) (good : checkOf b ≡ Good n m f) where
@@ -265,3 +265,71 @@ module _ (b : List ℕ) (bytes : Bytes b) (n m f : ℕ) (good : checkOf b ≡ Go
           ≡ and t (arcFails (entryOf word text slash i) x now j)
       by x j true z = fails-kept (entryOf word text slash i) x (upto type k) now j (elsewhere type k j h z)
       by x j false z = refl
+
+  -- one instance more
+  next-written : (type : List ℕ) (k : ℕ) → k < n → (now : Values) → Fine now → Fine (changedAt (entryOf word text slash i) (upto type k) now)
+      → refusalIn b text slash n m f (i .head) rows (spelled (sheetAt b n m f) now) (place-of k) ≡ 0
+      → (writtenIn b text slash n m f (i .head) rows (spelled (sheetAt b n m f) (changedAt (entryOf word text slash i) (upto type k) now)) (place-of k)
+      ≡ spelled (sheetAt b n m f) (changedAt (entryOf word text slash i) (λ j. or (upto type k j) (hits k j)) now))
+      × Fine (changedAt (entryOf word text slash i) (λ j. or (upto type k j) (hits k j)) now)
+  next-written type k h now fine then z =
+      let e = entryOf word text slash i in
+      let p = place-of k in
+      let now' = changedAt e (upto type k) now in
+      let r = in-refusal b bytes n m f good text slash word i rows laws p now' then ∙ kept type k h now
+      ∙ sym (in-refusal b bytes n m f good text slash word i rows laws p now fine) ∙ z in
+      rw (changed-twice e (upto type k) (hits k) now (λ j x. elsewhere type k j h x)) at
+      (in-written b bytes n m f good text slash word i rows laws p now' then r)
+
+  -- in none
+  none-written : (type : List ℕ) (now : Values) → changedAt (entryOf word text slash i) (upto type 0) now ≡ now
+  unfolding changedAt below anyOf
+  none-written type now = refl
+
+  -- in those of the first k
+  walk : (type : List ℕ) (now : Values) → Fine now → (k : ℕ) → k ≤ n
+      → leastOf (λ l. sameText (typeAt b (place-of l)) type) (λ l. refusalIn b text slash n m f (i .head) rows (spelled (sheetAt b n m f) now) (place-of l)) k ≡ 0
+      → (writtenOf (λ l. sameText (typeAt b (place-of l)) type) (λ l o. writtenIn b text slash n m f (i .head) rows o (place-of l)) (spelled (sheetAt b n m f) now) k
+      ≡ spelled (sheetAt b n m f) (changedAt (entryOf word text slash i) (upto type k) now))
+      × Fine (changedAt (entryOf word text slash i) (upto type k) now)
+  unfolding leastOf writtenOf
+  walk type now fine zero h z = rw (none-written type now) (refl, fine)
+  walk type now fine (suc k) h z =
+      rw (upto-next type k) (by (sameText (typeAt b (place-of k)) type) (walk type now fine k (omega arith)) z)
+    where
+      e : Entry Word
+      e = entryOf word text slash i
+      least : ℕ
+      least = leastOf (λ l. sameText (typeAt b (place-of l)) type) (λ l. refusalIn b text slash n m f (i .head) rows (spelled (sheetAt b n m f) now) (place-of l)) k
+      written : List ℕ
+      written = writtenOf (λ l. sameText (typeAt b (place-of l)) type) (λ l o. writtenIn b text slash n m f (i .head) rows o (place-of l)) (spelled (sheetAt b n m f) now) k
+      by : (t : Bool)
+          → (least ≡ 0 → (written ≡ spelled (sheetAt b n m f) (changedAt e (upto type k) now)) × Fine (changedAt e (upto type k) now))
+          → pick t (lesser least (refusalIn b text slash n m f (i .head) rows (spelled (sheetAt b n m f) now) (place-of k))) least ≡ 0
+          → (pick t (writtenIn b text slash n m f (i .head) rows written (place-of k)) written
+          ≡ spelled (sheetAt b n m f) (changedAt e (λ j. or (upto type k j) (and t (hits k j))) now))
+          × Fine (changedAt e (λ j. or (upto type k j) (and t (hits k j))) now)
+      by true ih q =
+          let w = lesser-none least (refusalIn b text slash n m f (i .head) rows (spelled (sheetAt b n m f) now) (place-of k)) q in
+          let y = ih (w .0) in
+          rw (y .0) (next-written type k (omega arith) now fine (y .1) (w .1))
+      by false ih q =
+          let same : (λ j. or (upto type k j) false) ≡ upto type k = fun-ext (λ j. or-none (upto type k j)) in
+          rw same (ih q)
+
+  -- where nothing is refused, what is written in all instances of the cell's type is what the history leaves
+  pub every-written : (c : Cell Word) → c .part ≡ every → (now : Values) → Fine now
+      → refusalEvery b text slash n m f (i .head) rows (spelled (sheetAt b n m f) now) (c .type) ≡ 0
+      → (writtenEvery b text slash n m f (i .head) rows (spelled (sheetAt b n m f) now) (c .type)
+      ≡ spelled (sheetAt b n m f) (changedAt (entryOf word text slash i)
+      (λ j. anyOf (λ (x : Instance). and (applies c x) (arcIs (recordsOf (sheetAt b n m f)) (matches (x .path) (entryOf word text slash i)) j))
+      (recordsOf (sheetAt b n m f) .instances)) now))
+      × Fine (changedAt (entryOf word text slash i)
+      (λ j. anyOf (λ (x : Instance). and (applies c x) (arcIs (recordsOf (sheetAt b n m f)) (matches (x .path) (entryOf word text slash i)) j))
+      (recordsOf (sheetAt b n m f) .instances)) now)
+  unfolding refusalEvery writtenEvery
+  every-written c p now fine z =
+      let e = entryOf word text slash i in
+      let same : (λ j. anyOf (λ (x : Instance). and (applies c x) (arcIs whole (matches (x .path) e) j)) (whole .instances)) ≡ upto (c .type) n
+      = fun-ext (λ j. every-of b bytes n m f good c p (λ x. arcIs whole (matches x e) j)) in
+      rw same (walk (c .type) now fine n (omega arith) z)

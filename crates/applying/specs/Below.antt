@@ -6,7 +6,7 @@ use mathlib.Core.Bool.{Bool, true, false, not}
 use mathlib.Core.List.{List, [], _∷_}
 use mathlib.Core.Option.{Option, none, some}
 use native.Mathlib.Omega.{arith}
-use lib.Dec.{eqb}
+use lib.Dec.{eqb, leb}
 use lib.ListN.{length, getElem?}
 use borrow.Author.Tests.{eqb-true, eqb-false, eq-eqb}
 use Rattle.classes.specs.Choice.{pick, and, or}
@@ -137,3 +137,14 @@ pub first-none : (a b c : Bool) → pick a (firstOf false b c) 14 ≡ firstOf (n
 unfolding firstOf
 first-none true b c = refl
 first-none false b c = refl
+
+-- no refusal is the lesser of none
+pub lesser-none : (a b : ℕ) → lesser a b ≡ 0 → (a ≡ 0) × (b ≡ 0)
+unfolding lesser
+lesser-none a b = by (eqb a 0) refl (eqb b 0) refl (leb a b)
+  where
+    by : (x : Bool) → eqb a 0 ≡ x → (y : Bool) → eqb b 0 ≡ y → (z : Bool) → pick x b (pick y a (pick z a b)) ≡ 0 → (a ≡ 0) × (b ≡ 0)
+    by true p y q z e = (eqb-true a 0 p, e)
+    by false p true q z e = (e, eqb-true b 0 q)
+    by false p false q true e = absurd (eqb-false a 0 p e)
+    by false p false q false e = absurd (eqb-false b 0 q e)
