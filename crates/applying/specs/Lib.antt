@@ -4,3 +4,4 @@ pub mod Bytes
 pub mod Below
 pub mod Instances
 pub mod Addressed
+pub mod Every
