@@ -51,10 +51,14 @@ module _ (b : List ℕ) (bytes : Bytes b) (n m f : ℕ) (good : checkOf b ≡ Go
     pub cell-absent : (path : List ℕ) → c .part ≡ at path → findInstance b path n 12 ≡ Nothing → cellNumber (recordsAt b n m f) c ≡ some 12
     unfolding cellNumber unapplied
     cell-absent path e g =
-        rw (any-instance (applies c), below-none (λ k. applies c (instanceOf b k)) n
-        (λ k h. rw (part-at path k e, other-path path k (λ x. instance-absent b path n 12 k g h x))), e,
-        any-instance (λ (i : Instance). sameName (i .path) path),
-        below-none (λ k. sameName (pathAt b (placeOf b k)) path) n (λ k h. other-path path k (λ x. instance-absent b path n 12 k g h x)))
+        rw (
+          any-instance (applies c),
+          below-none (λ k. applies c (instanceOf b k)) n
+              (λ k h. rw (part-at path k e, other-path path k (λ x. instance-absent b path n 12 k g h x))),
+          e,
+          any-instance (λ (i : Instance). sameName (i .path) path),
+          below-none (λ k. sameName (pathAt b (placeOf b k)) path) n (λ k h. other-path path k (λ x. instance-absent b path n 12 k g h x)),
+        )
 
     -- the instance that is found
     pub cell-found : (path : List ℕ) (q : ℕ) → findInstance b path n 12 ≡ At q → (k : ℕ) × (k < n) × (q ≡ placeOf b k) × (pathAt b q ≡ path)
@@ -71,9 +75,13 @@ module _ (b : List ℕ) (bytes : Bytes b) (n m f : ℕ) (good : checkOf b ≡ Go
         by : (k : ℕ) → k < n → pathAt b (placeOf b k) ≡ path → sameText (typeAt b (placeOf b k)) (c .type) ≡ false
             → pick (anyOf (applies c) (recordsAt b n m f .instances)) none (unapplied (recordsAt b n m f .instances) (c .part)) ≡ some 13
         by k h x y =
-            rw (any-instance (applies c), below-none (λ l. applies c (instanceOf b l)) n (λ l r. rw (part-at path l e) (not-both l r _ refl)), e,
-            any-instance (λ (i : Instance). sameName (i .path) path),
-            below-some (λ l. sameName (pathAt b (placeOf b l)) path) n k h (rw x (same-self path)))
+            rw (
+              any-instance (applies c),
+              below-none (λ l. applies c (instanceOf b l)) n (λ l r. rw (part-at path l e) (not-both l r _ refl)),
+              e,
+              any-instance (λ (i : Instance). sameName (i .path) path),
+              below-some (λ l. sameName (pathAt b (placeOf b l)) path) n k h (rw x (same-self path)),
+            )
           where
             not-both : (l : ℕ) → l < n → (t : Bool) → sameName (pathAt b (placeOf b l)) path ≡ t → and t (sameText (typeAt b (placeOf b l)) (c .type)) ≡ false
             not-both l r true z = rw (instance-once b bytes n m f good l k r h (name-exactly _ _ .0 z ∙ sym x)) y
@@ -119,8 +127,11 @@ module _ (b : List ℕ) (bytes : Bytes b) (n m f : ℕ) (good : checkOf b ≡ Go
         → (e : Entry Word) (now : Values) → refusalOf (recordsAt b n m f) c e now ≡ refusalAt (recordsAt b n m f) (pathAt b (placeOf b k)) e now
     unfolding refusalOf refusalAt lacks
     one-refusal k h p d e now =
-        rw (one-of k h p d (λ x. not (anyOf (matches x e) (recordsAt b n m f .arcs))), one-of k h p d (λ x. failsAt (recordsAt b n m f) x e 15 now),
-        one-of k h p d (λ x. failsAt (recordsAt b n m f) x e 16 now))
+        rw (
+          one-of k h p d (λ x. not (anyOf (matches x e) (recordsAt b n m f .arcs))),
+          one-of k h p d (λ x. failsAt (recordsAt b n m f) x e 15 now),
+          one-of k h p d (λ x. failsAt (recordsAt b n m f) x e 16 now),
+        )
 
     -- and means the arcs that it means there
     pub one-applied : (k : ℕ) → k < n → c .part ≡ at (pathAt b (placeOf b k)) → sameText (typeAt b (placeOf b k)) (c .type) ≡ true

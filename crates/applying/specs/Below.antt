@@ -72,6 +72,7 @@ below-some f (suc k) j l e = rw (any-below f k) (go (λ h. below-some f k j h e)
   where
     less : (j ≡ k → ⊥) → j < k
     less z = omega arith
+
     go : (j < k → anyOf f (below k) ≡ true) → (t : Bool) → eqb j k ≡ t → or (anyOf f (below k)) (f k) ≡ true
     go ih true q = let z = eqb-true j k q in rw (rw z at e) (or-all (anyOf f (below k)))
     go ih false q = rw (ih (less (eqb-false j k q)))
@@ -84,6 +85,7 @@ below-one f k j h =
     skip : (f j ≡ false) → (l : ℕ) (t : Bool) → eqb l j ≡ t → and t (f l) ≡ false
     skip z l true q = rw (eqb-true l j q, z)
     skip z l false q = refl
+
     go : (t : Bool) → f j ≡ t → anyOf (λ l. and (eqb l j) (f l)) (below k) ≡ true → t ≡ true
     go true q e = refl
     go false q e = clash (sym (below-none (λ l. and (eqb l j) (f l)) k (λ l x. skip q l (eqb l j) refl)) ∙ e)
@@ -123,8 +125,13 @@ pub least-first : (hit A B C : ℕ → Bool) (r : ℕ → ℕ) (k : ℕ) → ((j
 unfolding leastOf below anyOf firstOf
 least-first hit A B C r zero h = refl
 least-first hit A B C r (suc k) h =
-    rw (any-below (λ j. and (hit j) (A j)) k, any-below (λ j. and (hit j) (B j)) k, any-below (λ j. and (hit j) (C j)) k,
-    least-first hit A B C r k (λ j l. h j (omega arith)), h k (omega arith))
+    rw (
+      any-below (λ j. and (hit j) (A j)) k,
+      any-below (λ j. and (hit j) (B j)) k,
+      any-below (λ j. and (hit j) (C j)) k,
+      least-first hit A B C r k (λ j l. h j (omega arith)),
+      h k (omega arith),
+    )
     (go (hit k) (anyOf (λ j. and (hit j) (A j)) (below k)) (anyOf (λ j. and (hit j) (B j)) (below k)) (anyOf (λ j. and (hit j) (C j)) (below k)))
   where
     go : (t a b c : Bool) → pick t (lesser (firstOf a b c) (firstOf (A k) (B k) (C k))) (firstOf a b c)

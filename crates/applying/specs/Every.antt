@@ -41,9 +41,11 @@ matches-one text slash {Word} word i p q k = by (eqb (i .head .kind) 4) refl
   where
     e : Entry Word
     e = entryOf word text slash i
+
     ends : (t : Bool) (name : List ℕ) → endsAt p (pick t none (some name)) (k .end2) ≡ true → endsAt q (pick t none (some name)) (k .end2) ≡ true → p ≡ q
     ends true name x y = path-determined p q _ (sym (name-exactly _ _ .0 x) ∙ name-exactly _ _ .0 y)
     ends false name x y = path-determined p q name (sym (name-exactly _ _ .0 x) ∙ name-exactly _ _ .0 y)
+
     by : (t : Bool) → eqb (i .head .kind) 4 ≡ t → matches p e k ≡ true → matches q e k ≡ true → p ≡ q
     by true d x y =
         ends (eqb (i .head .to1) 0) (nameAt word text slash (i .head .from1) (i .head .to1))
@@ -85,6 +87,7 @@ module _ (b : List ℕ) (bytes : Bytes b) (n m f : ℕ) (good : checkOf b ≡ Go
     where
       e : Entry Word
       e = entryOf word text slash i
+
       by : (t : Bool) → ltb j m ≡ t → k ≡ l
       by true z =
           let r = ltb-true j m z in
@@ -105,8 +108,11 @@ module _ (b : List ℕ) (bytes : Bytes b) (n m f : ℕ) (good : checkOf b ≡ Go
       (λ k. failsAt (recordsAt b n m f) (pathAt b (placeOf b k)) e 15 now) (λ k. failsAt (recordsAt b n m f) (pathAt b (placeOf b k)) e 16 now)
       (λ k. refusalIn b text slash n m f (i .head) rows (spelled (sheetAt b n m f) now) (placeOf b k)) n
       (λ k h. in-refusal b bytes n m f good text slash word i rows laws (placeOf b k) now fine)
-      ∙ rw (every-of b bytes n m f good c p (λ x. not (anyOf (matches x e) (recordsAt b n m f .arcs))), every-of b bytes n m f good c p (λ x. failsAt (recordsAt b n m f) x e 15 now),
-      every-of b bytes n m f good c p (λ x. failsAt (recordsAt b n m f) x e 16 now))
+      ∙ rw (
+        every-of b bytes n m f good c p (λ x. not (anyOf (matches x e) (recordsAt b n m f .arcs))),
+        every-of b bytes n m f good c p (λ x. failsAt (recordsAt b n m f) x e 15 now),
+        every-of b bytes n m f good c p (λ x. failsAt (recordsAt b n m f) x e 16 now),
+      )
 
   -- the arcs that it means in the instances of this type among the first k
   abbrev upto : List ℕ → ℕ → ℕ → Bool
@@ -128,10 +134,12 @@ module _ (b : List ℕ) (bytes : Bytes b) (n m f : ℕ) (good : checkOf b ≡ Go
   unfolding refusalAt failsAt
   kept type k h now =
       let e = entryOf word text slash i in
-      rw (below-cong (λ j. and (hits k j) (arcFails e 15 (changedAt e (upto type k) now) j)) (λ j. and (hits k j) (arcFails e 15 now j)) (length (recordsAt b n m f .arcs))
-      (λ j r. by 15 j (hits k j) refl),
-      below-cong (λ j. and (hits k j) (arcFails e 16 (changedAt e (upto type k) now) j)) (λ j. and (hits k j) (arcFails e 16 now j)) (length (recordsAt b n m f .arcs))
-      (λ j r. by 16 j (hits k j) refl))
+      rw (
+        below-cong (λ j. and (hits k j) (arcFails e 15 (changedAt e (upto type k) now) j)) (λ j. and (hits k j) (arcFails e 15 now j)) (length (recordsAt b n m f .arcs))
+            (λ j r. by 15 j (hits k j) refl),
+        below-cong (λ j. and (hits k j) (arcFails e 16 (changedAt e (upto type k) now) j)) (λ j. and (hits k j) (arcFails e 16 now j)) (length (recordsAt b n m f .arcs))
+            (λ j r. by 16 j (hits k j) refl),
+      )
     where
       by : (x j : ℕ) (t : Bool) → hits k j ≡ t → and t (arcFails (entryOf word text slash i) x (changedAt (entryOf word text slash i) (upto type k) now) j)
           ≡ and t (arcFails (entryOf word text slash i) x now j)
@@ -171,10 +179,13 @@ module _ (b : List ℕ) (bytes : Bytes b) (n m f : ℕ) (good : checkOf b ≡ Go
     where
       e : Entry Word
       e = entryOf word text slash i
+
       least : ℕ
       least = leastOf (λ l. sameText (typeAt b (placeOf b l)) type) (λ l. refusalIn b text slash n m f (i .head) rows (spelled (sheetAt b n m f) now) (placeOf b l)) k
+
       written : List ℕ
       written = writtenOf (λ l. sameText (typeAt b (placeOf b l)) type) (λ l o. writtenIn b text slash n m f (i .head) rows o (placeOf b l)) (spelled (sheetAt b n m f) now) k
+
       by : (t : Bool)
           → (least ≡ 0 → (written ≡ spelled (sheetAt b n m f) (changedAt e (upto type k) now)) × Fine (changedAt e (upto type k) now))
           → pick t (lesser least (refusalIn b text slash n m f (i .head) rows (spelled (sheetAt b n m f) now) (placeOf b k))) least ≡ 0

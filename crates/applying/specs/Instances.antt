@@ -96,8 +96,15 @@ module _ (text : List ℕ) (slash : Bool) {Word : Type 0} (word : ℕ → Word) 
   wants-means : (path : List ℕ) → eqb (i .head .kind) 4 ≡ false → matches path entry (asKey (wants path)) ≡ true
   unfolding matches entryOf asKey nameAt endName wanted secondWanted
   wants-means path d =
-      rw (d, second-is path (oneEnd (i .head .kind)) (canon slash (partOf text (i .head .from2) (i .head .to2))), eqb-self (i .head .kind),
-      eqb-self (i .head .edge1), eqb-self (i .head .edge2), same-self, same-self)
+      rw (
+        d,
+        second-is path (oneEnd (i .head .kind)) (canon slash (partOf text (i .head .from2) (i .head .to2))),
+        eqb-self (i .head .kind),
+        eqb-self (i .head .edge1),
+        eqb-self (i .head .edge2),
+        same-self,
+        same-self,
+      )
 
   means-wants : (path : List ℕ) (k : form.Key) → eqb (i .head .kind) 4 ≡ false → matches path entry (asKey k) ≡ true → k ≡ wants path
   unfolding entryOf asKey nameAt endName wanted secondWanted
@@ -177,9 +184,13 @@ module _ (b : List ℕ) (bytes : Bytes b) (n m f : ℕ) (good : checkOf b ≡ Go
     unfolding refusalAt failsAt
     refusal-by p now hit h =
         let e = entryOf word text slash i in
-        rw (any-arc b bytes n m f good (matches (pathAt b p) e), arcs-length b bytes n m f good, below-cong (means p) hit m h,
-        below-cong (λ j. and (means p j) (arcFails e 15 now j)) (λ j. and (hit j) (arcFails e 15 now j)) m (λ j l. rw (h j l)),
-        below-cong (λ j. and (means p j) (arcFails e 16 now j)) (λ j. and (hit j) (arcFails e 16 now j)) m (λ j l. rw (h j l)))
+        rw (
+          any-arc b bytes n m f good (matches (pathAt b p) e),
+          arcs-length b bytes n m f good,
+          below-cong (means p) hit m h,
+          below-cong (λ j. and (means p j) (arcFails e 15 now j)) (λ j. and (hit j) (arcFails e 15 now j)) m (λ j l. rw (h j l)),
+          below-cong (λ j. and (means p j) (arcFails e 16 now j)) (λ j. and (hit j) (arcFails e 16 now j)) m (λ j l. rw (h j l)),
+        )
 
     -- what the program refuses in an instance is what the history refuses there
     pub in-refusal : (p : ℕ) (now : Values) → Fine now
@@ -195,10 +206,16 @@ module _ (b : List ℕ) (bytes : Bytes b) (n m f : ℕ) (good : checkOf b ≡ Go
             let e = entryOf word text slash i in
             let w = found-is p q d a in
             let j = w .0 in
-            rw (w .2, refusal-by p now (λ l. eqb l j) (λ l x. w .3 l), below-some (λ l. eqb l j) m j (w .1) (eqb-self j),
-            below-one (arcFails e 15 now) m j (w .1), below-one (arcFails e 16 now) m j (w .1)) (laws .arc-refusal now fine j (w .1))
+            rw (
+              w .2,
+              refusal-by p now (λ l. eqb l j) (λ l x. w .3 l),
+              below-some (λ l. eqb l j) m j (w .1) (eqb-self j),
+              below-one (arcFails e 15 now) m j (w .1),
+              below-one (arcFails e 16 now) m j (w .1),
+            ) (laws .arc-refusal now fine j (w .1))
         other Nothing a d =
             rw (refusal-by p now (λ l. false) (absent-is p d a), below-none (λ l. false) m (λ j h. refl))
+
         go : (t : Bool) → eqb (i .head .kind) 4 ≡ t
             → pick t (deviceRefusal b text slash n m f (i .head) rows (spelled (sheetAt b n m f) now) p)
             (foundRefusal b text slash n m f (i .head) rows (spelled (sheetAt b n m f) now) (arcOf b text slash n m f (i .head) rows p))
@@ -228,14 +245,18 @@ module _ (b : List ℕ) (bytes : Bytes b) (n m f : ℕ) (good : checkOf b ≡ Go
             let same : means p ≡ (λ l. eqb l (w .0)) = fun-ext (w .3) in
             rw (w .2, same) (laws .arc-written now fine (w .0) (w .1) (rw (w .2) at z))
         other Nothing a d z = absurd (omega arith)
+
         hit : ℕ → Bool
         hit k = deviceHit b text slash n m f (i .head) rows p (place b k f)
+
         all : eqb (i .head .kind) 4 ≡ true → (l : ℕ) (t : Bool) → ltb l m ≡ t → means p l ≡ and (hit l) t
         all d l true x = sym (hit-is p l (ltb-true l m x) d) ∙ sym (and-all (hit l))
         all d l false x = arc-past b bytes n m f good (matches (pathAt b p) (entryOf word text slash i)) l (ltb-false l m x) ∙ sym (and-none (hit l))
+
         least : (t : Bool) → (x : ℕ) → pick t x 14 ≡ 0 → x ≡ 0
         least true x z = z
         least false x z = absurd (omega arith)
+
         go : (t : Bool) → eqb (i .head .kind) 4 ≡ t
             → pick t (deviceRefusal b text slash n m f (i .head) rows (spelled (sheetAt b n m f) now) p)
             (foundRefusal b text slash n m f (i .head) rows (spelled (sheetAt b n m f) now) (arcOf b text slash n m f (i .head) rows p)) ≡ 0
