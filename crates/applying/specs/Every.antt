@@ -42,7 +42,8 @@ matches-one text slash {Word} word i p q k = by (eqb (i .head .kind) 4) refl
     e : Entry Word
     e = entryOf word text slash i
 
-    ends : (t : Bool) (name : List ℕ) → endsAt p (pick t none (some name)) (k .end2) ≡ true → endsAt q (pick t none (some name)) (k .end2) ≡ true → p ≡ q
+    ends : (t : Bool) (name : List ℕ) → endsAt p (pick t none (some name)) (k .end2) ≡ true
+        → endsAt q (pick t none (some name)) (k .end2) ≡ true → p ≡ q
     ends true name x y = path-determined p q _ (sym (name-exactly _ _ .0 x) ∙ name-exactly _ _ .0 y)
     ends false name x y = path-determined p q name (sym (name-exactly _ _ .0 x) ∙ name-exactly _ _ .0 y)
 
@@ -78,16 +79,30 @@ module _ {Word : Type 0} (e : Entry Word) where
 
 module _ (b : List ℕ) (bytes : Bytes b) (n m f : ℕ) (good : checkOf b ≡ Good n m f) (text : List ℕ) (slash : Bool) {Word : Type 0} (word : ℕ → Word)
     (i : Item) (rows : List (List ℕ)) (laws : ArcLaws b n m f (entryOf word text slash i) rows (eqb (i .head .group) 73)) where
+  abbrev e : Entry Word
+  e = entryOf word text slash i
+
+  -- the sheet with these values
+  abbrev bytesOf : Values → List ℕ
+  bytesOf now = spelled (sheetAt b n m f) now
+
+  -- the refusal and what is written in instance number k, and whether it is of this type
+  abbrev refuses : Values → ℕ → ℕ
+  refuses now k = refusalIn b text slash n m f (i .head) rows (bytesOf now) (placeOf b k)
+
+  abbrev writes : ℕ → List ℕ → List ℕ
+  writes k out = writtenIn b text slash n m f (i .head) rows out (placeOf b k)
+
+  abbrev ofType : List ℕ → ℕ → Bool
+  ofType type k = sameText (typeAt b (placeOf b k)) type
+
   -- the entry means arc j in instance number k
   abbrev hits : ℕ → ℕ → Bool
-  hits k j = arcIs (recordsAt b n m f) (matches (pathAt b (placeOf b k)) (entryOf word text slash i)) j
+  hits k j = arcIs (recordsAt b n m f) (matches (pathAt b (placeOf b k)) e) j
 
   once : (k l j : ℕ) → k < n → l < n → hits k j ≡ true → hits l j ≡ true → k ≡ l
   once k l j h g x y = by (ltb j m) refl
     where
-      e : Entry Word
-      e = entryOf word text slash i
-
       by : (t : Bool) → ltb j m ≡ t → k ≡ l
       by true z =
           let r = ltb-true j m z in
@@ -99,14 +114,13 @@ module _ (b : List ℕ) (bytes : Bytes b) (n m f : ℕ) (good : checkOf b ≡ Go
 
   -- what is refused in all instances of the cell's type is what the history refuses
   pub every-refusal : (c : Cell Word) → c .part ≡ every → (now : Values) → Fine now
-      → refusalEvery b text slash n m f (i .head) rows (spelled (sheetAt b n m f) now) (c .type)
-      ≡ refusalOf (recordsAt b n m f) c (entryOf word text slash i) now
+      → refusalEvery b text slash n m f (i .head) rows (bytesOf now) (c .type)
+      ≡ refusalOf (recordsAt b n m f) c e now
   unfolding refusalEvery refusalOf refusalAt lacks
   every-refusal c p now fine =
-      let e = entryOf word text slash i in
-      least-first (λ k. sameText (typeAt b (placeOf b k)) (c .type)) (λ k. not (anyOf (matches (pathAt b (placeOf b k)) e) (recordsAt b n m f .arcs)))
+      least-first (ofType (c .type)) (λ k. not (anyOf (matches (pathAt b (placeOf b k)) e) (recordsAt b n m f .arcs)))
       (λ k. failsAt (recordsAt b n m f) (pathAt b (placeOf b k)) e 15 now) (λ k. failsAt (recordsAt b n m f) (pathAt b (placeOf b k)) e 16 now)
-      (λ k. refusalIn b text slash n m f (i .head) rows (spelled (sheetAt b n m f) now) (placeOf b k)) n
+      (refuses now) n
       (λ k h. in-refusal b bytes n m f good text slash word i rows laws (placeOf b k) now fine)
       ∙ rw (
         every-of b bytes n m f good c p (λ x. not (anyOf (matches x e) (recordsAt b n m f .arcs))),
@@ -116,44 +130,42 @@ module _ (b : List ℕ) (bytes : Bytes b) (n m f : ℕ) (good : checkOf b ≡ Go
 
   -- the arcs that it means in the instances of this type among the first k
   abbrev upto : List ℕ → ℕ → ℕ → Bool
-  upto type k j = anyOf (λ l. and (sameText (typeAt b (placeOf b l)) type) (hits l j)) (below k)
+  upto type k j = anyOf (λ l. and (ofType type l) (hits l j)) (below k)
 
-  upto-next : (type : List ℕ) (k : ℕ) → upto type (suc k) ≡ (λ j. or (upto type k j) (and (sameText (typeAt b (placeOf b k)) type) (hits k j)))
-  upto-next type k = fun-ext (λ j. any-below (λ l. and (sameText (typeAt b (placeOf b l)) type) (hits l j)) k)
+  upto-next : (type : List ℕ) (k : ℕ) → upto type (suc k) ≡ (λ j. or (upto type k j) (and (ofType type k) (hits k j)))
+  upto-next type k = fun-ext (λ j. any-below (λ l. and (ofType type l) (hits l j)) k)
 
   -- an arc of instance number k is none of those before
   elsewhere : (type : List ℕ) (k j : ℕ) → k < n → hits k j ≡ true → upto type k j ≡ false
   elsewhere type k j h x =
-      below-none (λ l. and (sameText (typeAt b (placeOf b l)) type) (hits l j)) k
-      (λ l r. rw (not-so (hits l j) (λ y. let z = once l k j (omega arith) h y x in omega arith)) (and-none (sameText (typeAt b (placeOf b l)) type)))
+      below-none (λ l. and (ofType type l) (hits l j)) k
+      (λ l r. rw (not-so (hits l j) (λ y. let z = once l k j (omega arith) h y x in omega arith)) (and-none (ofType type l)))
 
   -- so what was changed there refuses nothing here
   kept : (type : List ℕ) (k : ℕ) → k < n → (now : Values)
-      → refusalAt (recordsAt b n m f) (pathAt b (placeOf b k)) (entryOf word text slash i) (changedAt (entryOf word text slash i) (upto type k) now)
-      ≡ refusalAt (recordsAt b n m f) (pathAt b (placeOf b k)) (entryOf word text slash i) now
+      → refusalAt (recordsAt b n m f) (pathAt b (placeOf b k)) e (changedAt e (upto type k) now)
+      ≡ refusalAt (recordsAt b n m f) (pathAt b (placeOf b k)) e now
   unfolding refusalAt failsAt
   kept type k h now =
-      let e = entryOf word text slash i in
       rw (
-        below-cong (λ j. and (hits k j) (arcFails e 15 (changedAt e (upto type k) now) j)) (λ j. and (hits k j) (arcFails e 15 now j)) (length (recordsAt b n m f .arcs))
-            (λ j r. by 15 j (hits k j) refl),
-        below-cong (λ j. and (hits k j) (arcFails e 16 (changedAt e (upto type k) now) j)) (λ j. and (hits k j) (arcFails e 16 now j)) (length (recordsAt b n m f .arcs))
-            (λ j r. by 16 j (hits k j) refl),
+        below-cong (λ j. and (hits k j) (arcFails e 15 (changedAt e (upto type k) now) j)) (λ j. and (hits k j) (arcFails e 15 now j))
+            (length (recordsAt b n m f .arcs)) (λ j r. by 15 j (hits k j) refl),
+        below-cong (λ j. and (hits k j) (arcFails e 16 (changedAt e (upto type k) now) j)) (λ j. and (hits k j) (arcFails e 16 now j))
+            (length (recordsAt b n m f .arcs)) (λ j r. by 16 j (hits k j) refl),
       )
     where
-      by : (x j : ℕ) (t : Bool) → hits k j ≡ t → and t (arcFails (entryOf word text slash i) x (changedAt (entryOf word text slash i) (upto type k) now) j)
-          ≡ and t (arcFails (entryOf word text slash i) x now j)
-      by x j true z = fails-kept (entryOf word text slash i) x (upto type k) now j (elsewhere type k j h z)
+      by : (x j : ℕ) (t : Bool) → hits k j ≡ t → and t (arcFails e x (changedAt e (upto type k) now) j)
+          ≡ and t (arcFails e x now j)
+      by x j true z = fails-kept e x (upto type k) now j (elsewhere type k j h z)
       by x j false z = refl
 
   -- one instance more
-  next-written : (type : List ℕ) (k : ℕ) → k < n → (now : Values) → Fine now → Fine (changedAt (entryOf word text slash i) (upto type k) now)
-      → refusalIn b text slash n m f (i .head) rows (spelled (sheetAt b n m f) now) (placeOf b k) ≡ 0
-      → (writtenIn b text slash n m f (i .head) rows (spelled (sheetAt b n m f) (changedAt (entryOf word text slash i) (upto type k) now)) (placeOf b k)
-      ≡ spelled (sheetAt b n m f) (changedAt (entryOf word text slash i) (λ j. or (upto type k j) (hits k j)) now))
-      × Fine (changedAt (entryOf word text slash i) (λ j. or (upto type k j) (hits k j)) now)
+  next-written : (type : List ℕ) (k : ℕ) → k < n → (now : Values) → Fine now → Fine (changedAt e (upto type k) now)
+      → refuses now k ≡ 0
+      → (writes k (bytesOf (changedAt e (upto type k) now))
+      ≡ bytesOf (changedAt e (λ j. or (upto type k j) (hits k j)) now))
+      × Fine (changedAt e (λ j. or (upto type k j) (hits k j)) now)
   next-written type k h now fine then z =
-      let e = entryOf word text slash i in
       let p = placeOf b k in
       let now' = changedAt e (upto type k) now in
       let r = in-refusal b bytes n m f good text slash word i rows laws p now' then ∙ kept type k h now
@@ -162,38 +174,35 @@ module _ (b : List ℕ) (bytes : Bytes b) (n m f : ℕ) (good : checkOf b ≡ Go
       (in-written b bytes n m f good text slash word i rows laws p now' then r)
 
   -- in none
-  none-written : (type : List ℕ) (now : Values) → changedAt (entryOf word text slash i) (upto type 0) now ≡ now
+  none-written : (type : List ℕ) (now : Values) → changedAt e (upto type 0) now ≡ now
   unfolding changedAt below anyOf
   none-written type now = refl
 
   -- in those of the first k
   walk : (type : List ℕ) (now : Values) → Fine now → (k : ℕ) → k ≤ n
-      → leastOf (λ l. sameText (typeAt b (placeOf b l)) type) (λ l. refusalIn b text slash n m f (i .head) rows (spelled (sheetAt b n m f) now) (placeOf b l)) k ≡ 0
-      → (writtenOf (λ l. sameText (typeAt b (placeOf b l)) type) (λ l o. writtenIn b text slash n m f (i .head) rows o (placeOf b l)) (spelled (sheetAt b n m f) now) k
-      ≡ spelled (sheetAt b n m f) (changedAt (entryOf word text slash i) (upto type k) now))
-      × Fine (changedAt (entryOf word text slash i) (upto type k) now)
+      → leastOf (ofType type) (refuses now) k ≡ 0
+      → (writtenOf (ofType type) writes (bytesOf now) k
+      ≡ bytesOf (changedAt e (upto type k) now))
+      × Fine (changedAt e (upto type k) now)
   unfolding leastOf writtenOf
   walk type now fine zero h z = rw (none-written type now) (refl, fine)
   walk type now fine (suc k) h z =
-      rw (upto-next type k) (by (sameText (typeAt b (placeOf b k)) type) (walk type now fine k (omega arith)) z)
+      rw (upto-next type k) (by (ofType type k) (walk type now fine k (omega arith)) z)
     where
-      e : Entry Word
-      e = entryOf word text slash i
-
       least : ℕ
-      least = leastOf (λ l. sameText (typeAt b (placeOf b l)) type) (λ l. refusalIn b text slash n m f (i .head) rows (spelled (sheetAt b n m f) now) (placeOf b l)) k
+      least = leastOf (ofType type) (refuses now) k
 
       written : List ℕ
-      written = writtenOf (λ l. sameText (typeAt b (placeOf b l)) type) (λ l o. writtenIn b text slash n m f (i .head) rows o (placeOf b l)) (spelled (sheetAt b n m f) now) k
+      written = writtenOf (ofType type) writes (bytesOf now) k
 
       by : (t : Bool)
-          → (least ≡ 0 → (written ≡ spelled (sheetAt b n m f) (changedAt e (upto type k) now)) × Fine (changedAt e (upto type k) now))
-          → pick t (lesser least (refusalIn b text slash n m f (i .head) rows (spelled (sheetAt b n m f) now) (placeOf b k))) least ≡ 0
-          → (pick t (writtenIn b text slash n m f (i .head) rows written (placeOf b k)) written
-          ≡ spelled (sheetAt b n m f) (changedAt e (λ j. or (upto type k j) (and t (hits k j))) now))
+          → (least ≡ 0 → (written ≡ bytesOf (changedAt e (upto type k) now)) × Fine (changedAt e (upto type k) now))
+          → pick t (lesser least (refuses now k)) least ≡ 0
+          → (pick t (writes k written) written
+          ≡ bytesOf (changedAt e (λ j. or (upto type k j) (and t (hits k j))) now))
           × Fine (changedAt e (λ j. or (upto type k j) (and t (hits k j))) now)
       by true ih q =
-          let w = lesser-none least (refusalIn b text slash n m f (i .head) rows (spelled (sheetAt b n m f) now) (placeOf b k)) q in
+          let w = lesser-none least (refuses now k) q in
           let y = ih (w .0) in
           rw (y .0) (next-written type k (omega arith) now fine (y .1) (w .1))
       by false ih q =
@@ -202,17 +211,17 @@ module _ (b : List ℕ) (bytes : Bytes b) (n m f : ℕ) (good : checkOf b ≡ Go
 
   -- where nothing is refused, what is written in all instances of the cell's type is what the history leaves
   pub every-written : (c : Cell Word) → c .part ≡ every → (now : Values) → Fine now
-      → refusalEvery b text slash n m f (i .head) rows (spelled (sheetAt b n m f) now) (c .type) ≡ 0
-      → (writtenEvery b text slash n m f (i .head) rows (spelled (sheetAt b n m f) now) (c .type)
-      ≡ spelled (sheetAt b n m f) (changedAt (entryOf word text slash i)
-      (λ j. anyOf (λ (x : Instance). and (applies c x) (arcIs (recordsAt b n m f) (matches (x .path) (entryOf word text slash i)) j))
+      → refusalEvery b text slash n m f (i .head) rows (bytesOf now) (c .type) ≡ 0
+      → (writtenEvery b text slash n m f (i .head) rows (bytesOf now) (c .type)
+      ≡ bytesOf (changedAt e
+      (λ j. anyOf (λ (x : Instance). and (applies c x) (arcIs (recordsAt b n m f) (matches (x .path) e) j))
       (recordsAt b n m f .instances)) now))
-      × Fine (changedAt (entryOf word text slash i)
-      (λ j. anyOf (λ (x : Instance). and (applies c x) (arcIs (recordsAt b n m f) (matches (x .path) (entryOf word text slash i)) j))
+      × Fine (changedAt e
+      (λ j. anyOf (λ (x : Instance). and (applies c x) (arcIs (recordsAt b n m f) (matches (x .path) e) j))
       (recordsAt b n m f .instances)) now)
   unfolding refusalEvery writtenEvery
   every-written c p now fine z =
-      let e = entryOf word text slash i in
-      let same : (λ j. anyOf (λ (x : Instance). and (applies c x) (arcIs (recordsAt b n m f) (matches (x .path) e) j)) (recordsAt b n m f .instances)) ≡ upto (c .type) n
+      let same : (λ j. anyOf (λ (x : Instance). and (applies c x) (arcIs (recordsAt b n m f) (matches (x .path) e) j)) (recordsAt b n m f .instances))
+      ≡ upto (c .type) n
       = fun-ext (λ j. every-of b bytes n m f good c p (λ x. arcIs (recordsAt b n m f) (matches x e) j)) in
       rw same (walk (c .type) now fine n (omega arith) z)
