@@ -1,12 +1,12 @@
 -- Some of the numbers below a bound: tests on them, and on the elements of a list by their places.
 -- Assumes nothing.
 use Prim.Native.Nat.{ℕ, zero, suc, _<_, _≤_}
-use mathlib.Core.Path.{_≡_, refl, sym, ap, _∙_}
+use mathlib.Core.Path.{_≡_, refl, sym, _∙_}
 use mathlib.Core.Bool.{Bool, true, false, not}
 use mathlib.Core.List.{List, [], _∷_}
-use mathlib.Core.Option.{Option, none, some}
+use mathlib.Core.Option.{none, some}
 use native.Mathlib.Omega.{arith}
-use lib.Dec.{eqb}
+use lib.Dec.{eqb, leb}
 use lib.ListN.{length, getElem?}
 use borrow.Author.Tests.{eqb-true, eqb-false, eq-eqb}
 use Rattle.classes.specs.Choice.{pick, and, or}
@@ -72,6 +72,7 @@ below-some f (suc k) j l e = rw (any-below f k) (go (λ h. below-some f k j h e)
   where
     less : (j ≡ k → ⊥) → j < k
     less z = omega arith
+
     go : (j < k → anyOf f (below k) ≡ true) → (t : Bool) → eqb j k ≡ t → or (anyOf f (below k)) (f k) ≡ true
     go ih true q = let z = eqb-true j k q in rw (rw z at e) (or-all (anyOf f (below k)))
     go ih false q = rw (ih (less (eqb-false j k q)))
@@ -84,6 +85,7 @@ below-one f k j h =
     skip : (f j ≡ false) → (l : ℕ) (t : Bool) → eqb l j ≡ t → and t (f l) ≡ false
     skip z l true q = rw (eqb-true l j q, z)
     skip z l false q = refl
+
     go : (t : Bool) → f j ≡ t → anyOf (λ l. and (eqb l j) (f l)) (below k) ≡ true → t ≡ true
     go true q e = refl
     go false q e = clash (sym (below-none (λ l. and (eqb l j) (f l)) k (λ l x. skip q l (eqb l j) refl)) ∙ e)
@@ -123,8 +125,13 @@ pub least-first : (hit A B C : ℕ → Bool) (r : ℕ → ℕ) (k : ℕ) → ((j
 unfolding leastOf below anyOf firstOf
 least-first hit A B C r zero h = refl
 least-first hit A B C r (suc k) h =
-    rw (any-below (λ j. and (hit j) (A j)) k, any-below (λ j. and (hit j) (B j)) k, any-below (λ j. and (hit j) (C j)) k,
-    least-first hit A B C r k (λ j l. h j (omega arith)), h k (omega arith))
+    rw (
+      any-below (λ j. and (hit j) (A j)) k,
+      any-below (λ j. and (hit j) (B j)) k,
+      any-below (λ j. and (hit j) (C j)) k,
+      least-first hit A B C r k (λ j l. h j (omega arith)),
+      h k (omega arith),
+    )
     (go (hit k) (anyOf (λ j. and (hit j) (A j)) (below k)) (anyOf (λ j. and (hit j) (B j)) (below k)) (anyOf (λ j. and (hit j) (C j)) (below k)))
   where
     go : (t a b c : Bool) → pick t (lesser (firstOf a b c) (firstOf (A k) (B k) (C k))) (firstOf a b c)
@@ -137,3 +144,14 @@ pub first-none : (a b c : Bool) → pick a (firstOf false b c) 14 ≡ firstOf (n
 unfolding firstOf
 first-none true b c = refl
 first-none false b c = refl
+
+-- no refusal is the lesser of none
+pub lesser-none : (a b : ℕ) → lesser a b ≡ 0 → (a ≡ 0) × (b ≡ 0)
+unfolding lesser
+lesser-none a b = by (eqb a 0) refl (eqb b 0) refl (leb a b)
+  where
+    by : (x : Bool) → eqb a 0 ≡ x → (y : Bool) → eqb b 0 ≡ y → (z : Bool) → pick x b (pick y a (pick z a b)) ≡ 0 → (a ≡ 0) × (b ≡ 0)
+    by true p y q z e = (eqb-true a 0 p, e)
+    by false p true q z e = (e, eqb-true b 0 q)
+    by false p false q true e = absurd (eqb-false a 0 p e)
+    by false p false q false e = absurd (eqb-false b 0 q e)

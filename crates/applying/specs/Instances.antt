@@ -1,40 +1,41 @@
 -- Which arcs an entry means in an instance, and what it does to them: bytes against history.
 -- Assumes nothing.
-use Prim.Native.Nat.{ℕ, zero, suc, _<_, _≤_}
+use Prim.Native.Nat.{ℕ, _<_, _≤_}
 use mathlib.Core.Path.{_≡_, refl, sym, ap, _∙_, fun-ext}
 use mathlib.Core.Bool.{Bool, true, false, not}
-use mathlib.Core.List.{List, [], _∷_}
-use mathlib.Core.Option.{Option, none, some}
+use mathlib.Core.List.{List, []}
+use mathlib.Core.Option.{none, some}
 use native.Mathlib.Omega.{arith}
 use lib.Dec.{eqb, ltb}
-use lib.ListN.{length, getElem?}
-use borrow.Author.Tests.{eqb-true, eq-eqb, ne-eqb, ltb-true, ltb-false, lt-ltb, le-ltb}
-use Rattle.classes.specs.Choice.{pick, and, or}
+use borrow.Author.Tests.{eqb-true, eq-eqb, ne-eqb, ltb-true, ltb-false}
+use Rattle.classes.specs.Choice.{pick, and}
 use Rattle.wire.specs.Wire.{Bytes}
-use Rattle.names.specs.Order.{sameText}
-use Rattle.names.specs.Name.{canon, full, sameName, oneBelow, partOf, both}
-use Rattle.names.specs.Laws.{name-exactly, same-self, path-determined}
-use Rattle.sheetform.specs.Form.{keyAt, valuesAt, pathAt, typeAt, oneEnd, checkOf}
+use Rattle.names.specs.Name.{canon, full, sameName, oneBelow, partOf}
+use Rattle.names.specs.Laws.{same-self}
+use Rattle.sheetform.specs.Form.{keyAt, valuesAt, pathAt, oneEnd, checkOf}
 use Rattle.sheetform.specs.Form as form
 use Rattle.sheetform.specs.declared.SheetCheck.the-variants.{Good}
-use Rattle.sheetlaws.specs.Sheet.{inEnd, nth, place}
-use Rattle.sheet.specs.Find.{secondWanted, wanted, findArc, arc-found, arc-absent}
+use Rattle.sheetlaws.specs.Sheet.{place}
+use Rattle.sheet.specs.Find.{secondWanted, wanted, arc-found, arc-absent}
 use Rattle.sheet.specs.declared.Found.{Found}
 use Rattle.sheet.specs.declared.Found.the-variants.{At, Nothing}
 use Rattle.grammar.specs.Meaning.{Item}
 use Rattle.history.specs.Ranges.{InRange}
-use Rattle.history.specs.Events.{anyOf, final, step}
-use Rattle.history.specs.EventLaws.{clash, some-inj}
-use Rattle.history.specs.Sheet.{Key, Records, Slot, Values, Entry, device, endName, endsAt, matches, below}
+use Rattle.history.specs.Events.{anyOf}
+use Rattle.history.specs.Sheet.{Key, Records, Slot, Values, Entry, endName, endsAt, matches, below}
 use Rattle.history.specs.Addressing.{matches-key}
 use Rattle.slots.specs.Slots.{asKey, recordsOf, spelled, sheetAt}
 use Rattle.slots.specs.Found.{arc-at, arcs-length, arc-once}
 use Rattle.amounts.specs.Amounts.{arcRefusal, arcWritten}
 use Rattle.amounts.specs.Laws.{firstOf}
 use Rattle.applying.specs.Says.{nameAt, entryOf}
-use Rattle.applying.specs.Judged.{supply, arcFails, changedAt, keyIs, arcIs, failsAt, refusalAt}
+use Rattle.applying.specs.Judged.{arcFails, changedAt, keyIs, arcIs, failsAt, refusalAt}
 use Rattle.applying.specs.Bytes.{leastOf, writtenOf, someOf, deviceHit, arcOf, foundRefusal, foundWritten, deviceRefusal, deviceWritten, refusalIn, writtenIn}
 use Rattle.applying.specs.Below.{bool-same, not-so, and-all, and-none, eqb-self, below-cong, below-none, below-some, below-one, any-at, past, some-any, first-none}
+
+-- the records of a sheet that was checked
+abbrev pub recordsAt : List ℕ → ℕ → ℕ → ℕ → Records
+recordsAt b n m f = recordsOf (sheetAt b n m f)
 
 -- values that a sheet may hold
 abbrev pub Fine : Values → Type 0
@@ -95,8 +96,15 @@ module _ (text : List ℕ) (slash : Bool) {Word : Type 0} (word : ℕ → Word) 
   wants-means : (path : List ℕ) → eqb (i .head .kind) 4 ≡ false → matches path entry (asKey (wants path)) ≡ true
   unfolding matches entryOf asKey nameAt endName wanted secondWanted
   wants-means path d =
-      rw (d, second-is path (oneEnd (i .head .kind)) (canon slash (partOf text (i .head .from2) (i .head .to2))), eqb-self (i .head .kind),
-      eqb-self (i .head .edge1), eqb-self (i .head .edge2), same-self, same-self)
+      rw (
+        d,
+        second-is path (oneEnd (i .head .kind)) (canon slash (partOf text (i .head .from2) (i .head .to2))),
+        eqb-self (i .head .kind),
+        eqb-self (i .head .edge1),
+        eqb-self (i .head .edge2),
+        same-self,
+        same-self,
+      )
 
   means-wants : (path : List ℕ) (k : form.Key) → eqb (i .head .kind) 4 ≡ false → matches path entry (asKey k) ≡ true → k ≡ wants path
   unfolding entryOf asKey nameAt endName wanted secondWanted
@@ -109,30 +117,27 @@ module _ (text : List ℕ) (slash : Bool) {Word : Type 0} (word : ℕ → Word) 
 -- The arcs of a sheet that was checked, by their numbers.
 
 module _ (b : List ℕ) (bytes : Bytes b) (n m f : ℕ) (good : checkOf b ≡ Good n m f) where
-  abbrev pub records : Records
-  records = recordsOf (sheetAt b n m f)
-
   -- arc number j passes the test as its key does
-  pub arc-is : (g : Key → Bool) (j : ℕ) → j < m → arcIs records g j ≡ g (asKey (keyAt b (place b j f)))
+  pub arc-is : (g : Key → Bool) (j : ℕ) → j < m → arcIs (recordsAt b n m f) g j ≡ g (asKey (keyAt b (place b j f)))
   unfolding arcIs keyIs
   arc-is g j h = rw (arc-at b bytes n m f good j h)
 
   -- behind the last there is none
-  pub arc-past : (g : Key → Bool) (j : ℕ) → m ≤ j → arcIs records g j ≡ false
+  pub arc-past : (g : Key → Bool) (j : ℕ) → m ≤ j → arcIs (recordsAt b n m f) g j ≡ false
   unfolding arcIs keyIs
-  arc-past g j h = rw (past (records .arcs) j (rw (arcs-length b bytes n m f good) h))
+  arc-past g j h = rw (past (recordsAt b n m f .arcs) j (rw (arcs-length b bytes n m f good) h))
 
   -- some arc passes the test
-  pub any-arc : (g : Key → Bool) → anyOf g (records .arcs) ≡ anyOf (arcIs records g) (below m)
+  pub any-arc : (g : Key → Bool) → anyOf g (recordsAt b n m f .arcs) ≡ anyOf (arcIs (recordsAt b n m f) g) (below m)
   any-arc g =
-      any-at g (λ j. asKey (keyAt b (place b j f))) (records .arcs) (λ j h. arc-at b bytes n m f good j (rw (arcs-length b bytes n m f good) at h))
-      ∙ rw (arcs-length b bytes n m f good) (below-cong (λ j. g (asKey (keyAt b (place b j f)))) (arcIs records g) m (λ j h. sym (arc-is g j h)))
+      any-at g (λ j. asKey (keyAt b (place b j f))) (recordsAt b n m f .arcs) (λ j h. arc-at b bytes n m f good j (rw (arcs-length b bytes n m f good) at h))
+      ∙ rw (arcs-length b bytes n m f good) (below-cong (λ j. g (asKey (keyAt b (place b j f)))) (arcIs (recordsAt b n m f) g) m (λ j h. sym (arc-is g j h)))
 
 module _ (b : List ℕ) (bytes : Bytes b) (n m f : ℕ) (good : checkOf b ≡ Good n m f) (text : List ℕ) (slash : Bool) {Word : Type 0} (word : ℕ → Word)
     (i : Item) (rows : List (List ℕ)) where
   -- the entry, applied to the instance at p, means arc number j
   abbrev pub means : ℕ → ℕ → Bool
-  means p = arcIs (recordsOf (sheetAt b n m f)) (matches (pathAt b p) (entryOf word text slash i))
+  means p = arcIs (recordsAt b n m f) (matches (pathAt b p) (entryOf word text slash i))
 
   -- DEVICE: the arcs that the program hits
   pub hit-is : (p j : ℕ) → j < m → eqb (i .head .kind) 4 ≡ true → deviceHit b text slash (i .head) p (place b j f) ≡ means p j
@@ -173,38 +178,48 @@ module _ (b : List ℕ) (bytes : Bytes b) (n m f : ℕ) (good : checkOf b ≡ Go
   module _ (laws : ArcLaws b n m f (entryOf word text slash i) rows (eqb (i .head .group) 73)) where
     -- the refusal in an instance, by the arcs that are meant there
     refusal-by : (p : ℕ) (now : Values) (hit : ℕ → Bool) → ((j : ℕ) → j < m → means p j ≡ hit j)
-        → refusalAt (recordsOf (sheetAt b n m f)) (pathAt b p) (entryOf word text slash i) now
+        → refusalAt (recordsAt b n m f) (pathAt b p) (entryOf word text slash i) now
         ≡ firstOf (not (anyOf hit (below m))) (anyOf (λ j. and (hit j) (arcFails (entryOf word text slash i) 15 now j)) (below m))
         (anyOf (λ j. and (hit j) (arcFails (entryOf word text slash i) 16 now j)) (below m))
     unfolding refusalAt failsAt
     refusal-by p now hit h =
         let e = entryOf word text slash i in
-        rw (any-arc b bytes n m f good (matches (pathAt b p) e), arcs-length b bytes n m f good, below-cong (means p) hit m h,
-        below-cong (λ j. and (means p j) (arcFails e 15 now j)) (λ j. and (hit j) (arcFails e 15 now j)) m (λ j l. rw (h j l)),
-        below-cong (λ j. and (means p j) (arcFails e 16 now j)) (λ j. and (hit j) (arcFails e 16 now j)) m (λ j l. rw (h j l)))
+        rw (
+          any-arc b bytes n m f good (matches (pathAt b p) e),
+          arcs-length b bytes n m f good,
+          below-cong (means p) hit m h,
+          below-cong (λ j. and (means p j) (arcFails e 15 now j)) (λ j. and (hit j) (arcFails e 15 now j)) m (λ j l. rw (h j l)),
+          below-cong (λ j. and (means p j) (arcFails e 16 now j)) (λ j. and (hit j) (arcFails e 16 now j)) m (λ j l. rw (h j l)),
+        )
 
     -- what the program refuses in an instance is what the history refuses there
     pub in-refusal : (p : ℕ) (now : Values) → Fine now
         → refusalIn b text slash n m f (i .head) rows (spelled (sheetAt b n m f) now) p
-        ≡ refusalAt (recordsOf (sheetAt b n m f)) (pathAt b p) (entryOf word text slash i) now
+        ≡ refusalAt (recordsAt b n m f) (pathAt b p) (entryOf word text slash i) now
     unfolding refusalIn deviceRefusal foundRefusal firstOf
     in-refusal p now fine = go (eqb (i .head .kind) 4) refl
       where
         other : (x : Found) → arcOf b text slash m f (i .head) p ≡ x → eqb (i .head .kind) 4 ≡ false
             → foundRefusal b text slash n m f (i .head) rows (spelled (sheetAt b n m f) now) x
-            ≡ refusalAt (recordsOf (sheetAt b n m f)) (pathAt b p) (entryOf word text slash i) now
+            ≡ refusalAt (recordsAt b n m f) (pathAt b p) (entryOf word text slash i) now
         other (At q) a d =
             let e = entryOf word text slash i in
             let w = found-is p q d a in
             let j = w .0 in
-            rw (w .2, refusal-by p now (λ l. eqb l j) (λ l x. w .3 l), below-some (λ l. eqb l j) m j (w .1) (eqb-self j),
-            below-one (arcFails e 15 now) m j (w .1), below-one (arcFails e 16 now) m j (w .1)) (laws .arc-refusal now fine j (w .1))
+            rw (
+              w .2,
+              refusal-by p now (λ l. eqb l j) (λ l x. w .3 l),
+              below-some (λ l. eqb l j) m j (w .1) (eqb-self j),
+              below-one (arcFails e 15 now) m j (w .1),
+              below-one (arcFails e 16 now) m j (w .1),
+            ) (laws .arc-refusal now fine j (w .1))
         other Nothing a d =
             rw (refusal-by p now (λ l. false) (absent-is p d a), below-none (λ l. false) m (λ j h. refl))
+
         go : (t : Bool) → eqb (i .head .kind) 4 ≡ t
             → pick t (deviceRefusal b text slash n m f (i .head) rows (spelled (sheetAt b n m f) now) p)
             (foundRefusal b text slash n m f (i .head) rows (spelled (sheetAt b n m f) now) (arcOf b text slash m f (i .head) p))
-            ≡ refusalAt (recordsOf (sheetAt b n m f)) (pathAt b p) (entryOf word text slash i) now
+            ≡ refusalAt (recordsAt b n m f) (pathAt b p) (entryOf word text slash i) now
         go true d =
             let hit : ℕ → Bool = λ k. deviceHit b text slash (i .head) p (place b k f) in
             rw (some-any hit m, laws .hits-refusal now fine hit m (omega arith), refusal-by p now hit (λ j h. sym (hit-is p j h d)))
@@ -230,14 +245,18 @@ module _ (b : List ℕ) (bytes : Bytes b) (n m f : ℕ) (good : checkOf b ≡ Go
             let same : means p ≡ (λ l. eqb l (w .0)) = fun-ext (w .3) in
             rw (w .2, same) (laws .arc-written now fine (w .0) (w .1) (rw (w .2) at z))
         other Nothing a d z = absurd (omega arith)
+
         hit : ℕ → Bool
         hit k = deviceHit b text slash (i .head) p (place b k f)
+
         all : eqb (i .head .kind) 4 ≡ true → (l : ℕ) (t : Bool) → ltb l m ≡ t → means p l ≡ and (hit l) t
         all d l true x = sym (hit-is p l (ltb-true l m x) d) ∙ sym (and-all (hit l))
         all d l false x = arc-past b bytes n m f good (matches (pathAt b p) (entryOf word text slash i)) l (ltb-false l m x) ∙ sym (and-none (hit l))
+
         least : (t : Bool) → (x : ℕ) → pick t x 14 ≡ 0 → x ≡ 0
         least true x z = z
         least false x z = absurd (omega arith)
+
         go : (t : Bool) → eqb (i .head .kind) 4 ≡ t
             → pick t (deviceRefusal b text slash n m f (i .head) rows (spelled (sheetAt b n m f) now) p)
             (foundRefusal b text slash n m f (i .head) rows (spelled (sheetAt b n m f) now) (arcOf b text slash m f (i .head) p)) ≡ 0

@@ -7,3 +7,4 @@ pub mod Arcs
 pub mod Below
 pub mod Instances
 pub mod Addressed
+pub mod Every
