@@ -39,7 +39,8 @@ module _ (b : List ℕ) (bytes : Bytes b) (n m f : ℕ) (good : checkOf b ≡ Go
   module _ {Word : Type 0} (c : Cell Word) where
     -- A cell with a path: the number of its refusal is what the search for its instance gives.
 
-    part-at : (path : List ℕ) (k : ℕ) → c .part ≡ at path → applies c (instanceOf b k) ≡ and (sameName (pathAt b (placeOf b k)) path) (sameText (typeAt b (placeOf b k)) (c .type))
+    part-at : (path : List ℕ) (k : ℕ) → c .part ≡ at path
+        → applies c (instanceOf b k) ≡ and (sameName (pathAt b (placeOf b k)) path) (sameText (typeAt b (placeOf b k)) (c .type))
     unfolding applies partIs
     part-at path k e = rw e
 
@@ -83,7 +84,8 @@ module _ (b : List ℕ) (bytes : Bytes b) (n m f : ℕ) (good : checkOf b ≡ Go
               below-some (λ l. sameName (pathAt b (placeOf b l)) path) n k h (rw x (same-self path)),
             )
           where
-            not-both : (l : ℕ) → l < n → (t : Bool) → sameName (pathAt b (placeOf b l)) path ≡ t → and t (sameText (typeAt b (placeOf b l)) (c .type)) ≡ false
+            not-both : (l : ℕ) → l < n → (t : Bool) → sameName (pathAt b (placeOf b l)) path ≡ t
+                → and t (sameText (typeAt b (placeOf b l)) (c .type)) ≡ false
             not-both l r true z = rw (instance-once b bytes n m f good l k r h (name-exactly _ _ .0 z ∙ sym x)) y
             not-both l r false z = refl
 
@@ -114,12 +116,14 @@ module _ (b : List ℕ) (bytes : Bytes b) (n m f : ℕ) (good : checkOf b ≡ Go
     one-of k h e d F =
         let x : applies c (instanceOf b k) ≡ true = rw (part-at (pathAt b (placeOf b k)) k e, same-self (pathAt b (placeOf b k)), d) in
         any-instance (λ (i : Instance). and (applies c i) (F (i .path)))
-        ∙ below-cong (λ l. and (applies c (instanceOf b l)) (F (pathAt b (placeOf b l)))) (λ l. and (applies c (instanceOf b l)) (F (pathAt b (placeOf b k)))) n (λ l r. same l _ refl)
+        ∙ below-cong (λ l. and (applies c (instanceOf b l)) (F (pathAt b (placeOf b l))))
+        (λ l. and (applies c (instanceOf b l)) (F (pathAt b (placeOf b k)))) n (λ l r. same l _ refl)
         ∙ any-and (λ l. applies c (instanceOf b l)) (F (pathAt b (placeOf b k))) (below n)
         ∙ rw (below-some (λ l. applies c (instanceOf b l)) n k h x)
       where
         same : (l : ℕ) (t : Bool) → applies c (instanceOf b l) ≡ t → and t (F (pathAt b (placeOf b l))) ≡ and t (F (pathAt b (placeOf b k)))
-        same l true z = rw (name-exactly _ _ .0 (both (sameName (pathAt b (placeOf b l)) (pathAt b (placeOf b k))) _ (rw (part-at (pathAt b (placeOf b k)) l e) at z) .0))
+        same l true z =
+            rw (name-exactly _ _ .0 (both (sameName (pathAt b (placeOf b l)) (pathAt b (placeOf b k))) _ (rw (part-at (pathAt b (placeOf b k)) l e) at z) .0))
         same l false z = refl
 
     -- so its entry is refused as in that one
@@ -136,7 +140,8 @@ module _ (b : List ℕ) (bytes : Bytes b) (n m f : ℕ) (good : checkOf b ≡ Go
     -- and means the arcs that it means there
     pub one-applied : (k : ℕ) → k < n → c .part ≡ at (pathAt b (placeOf b k)) → sameText (typeAt b (placeOf b k)) (c .type) ≡ true
         → (e : Entry Word) (j : ℕ)
-        → anyOf (λ (i : Instance). and (applies c i) (arcIs (recordsAt b n m f) (matches (i .path) e) j)) (recordsAt b n m f .instances) ≡ arcIs (recordsAt b n m f) (matches (pathAt b (placeOf b k)) e) j
+        → anyOf (λ (i : Instance). and (applies c i) (arcIs (recordsAt b n m f) (matches (i .path) e) j)) (recordsAt b n m f .instances)
+        ≡ arcIs (recordsAt b n m f) (matches (pathAt b (placeOf b k)) e) j
     one-applied k h p d e j = one-of k h p d (λ x. arcIs (recordsAt b n m f) (matches x e) j)
 
     -- `*`: it applies to the instances of its type
@@ -148,5 +153,6 @@ module _ (b : List ℕ) (bytes : Bytes b) (n m f : ℕ) (good : checkOf b ≡ Go
         → anyOf (λ (i : Instance). and (applies c i) (F (i .path))) (recordsAt b n m f .instances)
         ≡ anyOf (λ k. and (sameText (typeAt b (placeOf b k)) (c .type)) (F (pathAt b (placeOf b k)))) (below n)
     every-of e F = any-instance (λ (i : Instance). and (applies c i) (F (i .path)))
-        ∙ below-cong (λ k. and (applies c (instanceOf b k)) (F (pathAt b (placeOf b k)))) (λ k. and (sameText (typeAt b (placeOf b k)) (c .type)) (F (pathAt b (placeOf b k)))) n
+        ∙ below-cong (λ k. and (applies c (instanceOf b k)) (F (pathAt b (placeOf b k))))
+        (λ k. and (sameText (typeAt b (placeOf b k)) (c .type)) (F (pathAt b (placeOf b k)))) n
         (λ k h. rw (part-every k e))

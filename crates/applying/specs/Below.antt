@@ -94,7 +94,9 @@ below-one f k j h =
 any-first : (f : ℕ → Bool) (k : ℕ) → anyOf f (below (suc k)) ≡ or (f 0) (anyOf (λ j. f (suc j)) (below k))
 unfolding below anyOf
 any-first f zero = refl
-any-first f (suc k) = rw (any-below f (suc k), any-first f k, any-below (λ j. f (suc j)) k) (or-assoc (f 0) (anyOf (λ j. f (suc j)) (below k)) (f (suc k)))
+any-first f (suc k) =
+    rw (any-below f (suc k), any-first f k, any-below (λ j. f (suc j)) k)
+    (or-assoc (f 0) (anyOf (λ j. f (suc j)) (below k)) (f (suc k)))
 
 -- a list, by the places of its elements
 pub any-at : {A : Type 0} (g : A → Bool) (at : ℕ → A) (l : List A) → ((j : ℕ) → j < length l → getElem? l j ≡ some (at j))

@@ -79,11 +79,11 @@ module _ {Word : Type 0} (e : Entry Word) where
 
 module _ (b : List ℕ) (bytes : Bytes b) (n m f : ℕ) (good : checkOf b ≡ Good n m f) (text : List ℕ) (slash : Bool) {Word : Type 0} (word : ℕ → Word)
     (i : Item) (rows : List (List ℕ)) (laws : ArcLaws b n m f (entryOf word text slash i) rows (eqb (i .head .group) 73)) where
-  abbrev e : Entry Word
+  abbrev pub e : Entry Word
   e = entryOf word text slash i
 
   -- the sheet with these values
-  abbrev bytesOf : Values → List ℕ
+  abbrev pub bytesOf : Values → List ℕ
   bytesOf now = spelled (sheetAt b n m f) now
 
   -- the refusal and what is written in instance number k, and whether it is of this type

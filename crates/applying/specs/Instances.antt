@@ -70,7 +70,9 @@ module _ (text : List ℕ) (slash : Bool) {Word : Type 0} (word : ℕ → Word) 
 
   -- the key that it wants in the instance with this path
   abbrev wants : List ℕ → form.Key
-  wants path = wanted slash (i .head .kind) (i .head .edge1) (i .head .edge2) path (partOf text (i .head .from1) (i .head .to1)) (partOf text (i .head .from2) (i .head .to2))
+  wants path =
+      wanted slash (i .head .kind) (i .head .edge1) (i .head .edge2) path (partOf text (i .head .from1) (i .head .to1))
+      (partOf text (i .head .from2) (i .head .to2))
 
   -- DEVICE means an IOPATH that ends at its port, or just below the instance
   device-means : (path : List ℕ) (k : form.Key) → eqb (i .head .kind) 4 ≡ true
@@ -130,60 +132,76 @@ module _ (b : List ℕ) (bytes : Bytes b) (n m f : ℕ) (good : checkOf b ≡ Go
   -- some arc passes the test
   pub any-arc : (g : Key → Bool) → anyOf g (recordsAt b n m f .arcs) ≡ anyOf (arcIs (recordsAt b n m f) g) (below m)
   any-arc g =
-      any-at g (λ j. asKey (keyAt b (place b j f))) (recordsAt b n m f .arcs) (λ j h. arc-at b bytes n m f good j (rw (arcs-length b bytes n m f good) at h))
-      ∙ rw (arcs-length b bytes n m f good) (below-cong (λ j. g (asKey (keyAt b (place b j f)))) (arcIs (recordsAt b n m f) g) m (λ j h. sym (arc-is g j h)))
+      any-at g (λ j. asKey (keyAt b (place b j f))) (recordsAt b n m f .arcs)
+      (λ j h. arc-at b bytes n m f good j (rw (arcs-length b bytes n m f good) at h))
+      ∙ rw (arcs-length b bytes n m f good)
+      (below-cong (λ j. g (asKey (keyAt b (place b j f)))) (arcIs (recordsAt b n m f) g) m (λ j h. sym (arc-is g j h)))
 
 module _ (b : List ℕ) (bytes : Bytes b) (n m f : ℕ) (good : checkOf b ≡ Good n m f) (text : List ℕ) (slash : Bool) {Word : Type 0} (word : ℕ → Word)
     (i : Item) (rows : List (List ℕ)) where
+  abbrev pub e : Entry Word
+  e = entryOf word text slash i
+
+  -- the sheet with these values
+  abbrev pub bytesOf : Values → List ℕ
+  bytesOf now = spelled (sheetAt b n m f) now
+
+  -- what the program looks up: whether DEVICE hits arc j in the instance at p; the arc of any other
+  abbrev pub hits : ℕ → ℕ → Bool
+  hits p j = deviceHit b text slash (i .head) p (place b j f)
+
+  abbrev pub found : ℕ → Found
+  found p = arcOf b text slash m f (i .head) p
+
   -- the entry, applied to the instance at p, means arc number j
   abbrev pub means : ℕ → ℕ → Bool
-  means p = arcIs (recordsAt b n m f) (matches (pathAt b p) (entryOf word text slash i))
+  means p = arcIs (recordsAt b n m f) (matches (pathAt b p) e)
 
   -- DEVICE: the arcs that the program hits
-  pub hit-is : (p j : ℕ) → j < m → eqb (i .head .kind) 4 ≡ true → deviceHit b text slash (i .head) p (place b j f) ≡ means p j
+  pub hit-is : (p j : ℕ) → j < m → eqb (i .head .kind) 4 ≡ true → hits p j ≡ means p j
   unfolding deviceHit
   hit-is p j h d =
-      sym (arc-is b bytes n m f good (matches (pathAt b p) (entryOf word text slash i)) j h
+      sym (arc-is b bytes n m f good (matches (pathAt b p) e) j h
       ∙ device-means text slash word i (pathAt b p) (keyAt b (place b j f)) d)
 
   -- any other: the arc that the program finds, and no other
-  pub found-is : (p q : ℕ) → eqb (i .head .kind) 4 ≡ false → arcOf b text slash m f (i .head) p ≡ At q
+  pub found-is : (p q : ℕ) → eqb (i .head .kind) 4 ≡ false → found p ≡ At q
       → (j : ℕ) × (j < m) × (q ≡ place b j f) × ((l : ℕ) → means p l ≡ eqb l j)
   unfolding arcOf
-  found-is p q d e =
-      let a = arc-found b (wants text slash word i (pathAt b p)) m f q e in
+  found-is p q d o =
+      let a = arc-found b (wants text slash word i (pathAt b p)) m f q o in
       (a .0, a .1, a .2, λ l. by (a .0) (a .1) (rw (a .2) at (a .3)) l (ltb l m) refl)
     where
       by : (j : ℕ) → j < m → keyAt b (place b j f) ≡ wants text slash word i (pathAt b p) → (l : ℕ) (t : Bool) → ltb l m ≡ t → means p l ≡ eqb l j
       by j h k l true z =
           let c = ltb-true l m z in
-          let g = matches (pathAt b p) (entryOf word text slash i) in
+          let g = matches (pathAt b p) e in
           rw (arc-is b bytes n m f good g l c)
           (bool-same _ (eqb l j)
           (λ x. eq-eqb l j (arc-once b bytes n m f good l j c h (means-wants text slash word i (pathAt b p) (keyAt b (place b l f)) d x ∙ sym k)))
           (λ x. rw (eqb-true l j x, k) (wants-means text slash word i (pathAt b p) d)))
       by j h k l false z =
           let c = ltb-false l m z in
-          let g = matches (pathAt b p) (entryOf word text slash i) in
+          let g = matches (pathAt b p) e in
           rw (arc-past b bytes n m f good g l c, ne-eqb l j (λ x. omega arith))
 
   -- nor where it finds none
-  pub absent-is : (p : ℕ) → eqb (i .head .kind) 4 ≡ false → arcOf b text slash m f (i .head) p ≡ Nothing → (l : ℕ) → l < m → means p l ≡ false
+  pub absent-is : (p : ℕ) → eqb (i .head .kind) 4 ≡ false → found p ≡ Nothing → (l : ℕ) → l < m → means p l ≡ false
   unfolding arcOf
-  absent-is p d e l h =
-      let g = matches (pathAt b p) (entryOf word text slash i) in
+  absent-is p d o l h =
+      let g = matches (pathAt b p) e in
       rw (arc-is b bytes n m f good g l h)
-      (not-so _ (λ x. arc-absent b (wants text slash word i (pathAt b p)) m f l e h (means-wants text slash word i (pathAt b p) (keyAt b (place b l f)) d x)))
+      (not-so _ (λ x. arc-absent b (wants text slash word i (pathAt b p)) m f l o h
+      (means-wants text slash word i (pathAt b p) (keyAt b (place b l f)) d x)))
 
   module _ (laws : ArcLaws b n m f (entryOf word text slash i) rows (eqb (i .head .group) 73)) where
     -- the refusal in an instance, by the arcs that are meant there
     refusal-by : (p : ℕ) (now : Values) (hit : ℕ → Bool) → ((j : ℕ) → j < m → means p j ≡ hit j)
-        → refusalAt (recordsAt b n m f) (pathAt b p) (entryOf word text slash i) now
-        ≡ firstOf (not (anyOf hit (below m))) (anyOf (λ j. and (hit j) (arcFails (entryOf word text slash i) 15 now j)) (below m))
-        (anyOf (λ j. and (hit j) (arcFails (entryOf word text slash i) 16 now j)) (below m))
+        → refusalAt (recordsAt b n m f) (pathAt b p) e now
+        ≡ firstOf (not (anyOf hit (below m))) (anyOf (λ j. and (hit j) (arcFails e 15 now j)) (below m))
+        (anyOf (λ j. and (hit j) (arcFails e 16 now j)) (below m))
     unfolding refusalAt failsAt
     refusal-by p now hit h =
-        let e = entryOf word text slash i in
         rw (
           any-arc b bytes n m f good (matches (pathAt b p) e),
           arcs-length b bytes n m f good,
@@ -194,16 +212,15 @@ module _ (b : List ℕ) (bytes : Bytes b) (n m f : ℕ) (good : checkOf b ≡ Go
 
     -- what the program refuses in an instance is what the history refuses there
     pub in-refusal : (p : ℕ) (now : Values) → Fine now
-        → refusalIn b text slash n m f (i .head) rows (spelled (sheetAt b n m f) now) p
-        ≡ refusalAt (recordsAt b n m f) (pathAt b p) (entryOf word text slash i) now
+        → refusalIn b text slash n m f (i .head) rows (bytesOf now) p
+        ≡ refusalAt (recordsAt b n m f) (pathAt b p) e now
     unfolding refusalIn deviceRefusal foundRefusal firstOf
     in-refusal p now fine = go (eqb (i .head .kind) 4) refl
       where
-        other : (x : Found) → arcOf b text slash m f (i .head) p ≡ x → eqb (i .head .kind) 4 ≡ false
-            → foundRefusal b text slash n m f (i .head) rows (spelled (sheetAt b n m f) now) x
-            ≡ refusalAt (recordsAt b n m f) (pathAt b p) (entryOf word text slash i) now
+        other : (x : Found) → found p ≡ x → eqb (i .head .kind) 4 ≡ false
+            → foundRefusal b text slash n m f (i .head) rows (bytesOf now) x
+            ≡ refusalAt (recordsAt b n m f) (pathAt b p) e now
         other (At q) a d =
-            let e = entryOf word text slash i in
             let w = found-is p q d a in
             let j = w .0 in
             rw (
@@ -217,54 +234,50 @@ module _ (b : List ℕ) (bytes : Bytes b) (n m f : ℕ) (good : checkOf b ≡ Go
             rw (refusal-by p now (λ l. false) (absent-is p d a), below-none (λ l. false) m (λ j h. refl))
 
         go : (t : Bool) → eqb (i .head .kind) 4 ≡ t
-            → pick t (deviceRefusal b text slash n m f (i .head) rows (spelled (sheetAt b n m f) now) p)
-            (foundRefusal b text slash n m f (i .head) rows (spelled (sheetAt b n m f) now) (arcOf b text slash m f (i .head) p))
-            ≡ refusalAt (recordsAt b n m f) (pathAt b p) (entryOf word text slash i) now
+            → pick t (deviceRefusal b text slash n m f (i .head) rows (bytesOf now) p)
+            (foundRefusal b text slash n m f (i .head) rows (bytesOf now) (found p))
+            ≡ refusalAt (recordsAt b n m f) (pathAt b p) e now
         go true d =
-            let hit : ℕ → Bool = λ k. deviceHit b text slash (i .head) p (place b k f) in
-            rw (some-any hit m, laws .hits-refusal now fine hit m (omega arith), refusal-by p now hit (λ j h. sym (hit-is p j h d)))
-            (first-none (anyOf hit (below m)) (anyOf (λ j. and (hit j) (arcFails (entryOf word text slash i) 15 now j)) (below m))
-            (anyOf (λ j. and (hit j) (arcFails (entryOf word text slash i) 16 now j)) (below m)))
-        go false d = other (arcOf b text slash m f (i .head) p) refl d
+            rw (some-any (hits p) m, laws .hits-refusal now fine (hits p) m (omega arith), refusal-by p now (hits p) (λ j h. sym (hit-is p j h d)))
+            (first-none (anyOf (hits p) (below m)) (anyOf (λ j. and (hits p j) (arcFails e 15 now j)) (below m))
+            (anyOf (λ j. and (hits p j) (arcFails e 16 now j)) (below m)))
+        go false d = other (found p) refl d
 
     -- where nothing is refused, what it writes is what the history leaves
-    pub in-written : (p : ℕ) (now : Values) → Fine now → refusalIn b text slash n m f (i .head) rows (spelled (sheetAt b n m f) now) p ≡ 0
-        → (writtenIn b text slash n m f (i .head) rows (spelled (sheetAt b n m f) now) p
-        ≡ spelled (sheetAt b n m f) (changedAt (entryOf word text slash i) (means p) now))
-        × Fine (changedAt (entryOf word text slash i) (means p) now)
+    pub in-written : (p : ℕ) (now : Values) → Fine now → refusalIn b text slash n m f (i .head) rows (bytesOf now) p ≡ 0
+        → (writtenIn b text slash n m f (i .head) rows (bytesOf now) p
+        ≡ bytesOf (changedAt e (means p) now))
+        × Fine (changedAt e (means p) now)
     unfolding refusalIn writtenIn deviceRefusal deviceWritten foundRefusal foundWritten
     in-written p now fine = go (eqb (i .head .kind) 4) refl
       where
-        other : (x : Found) → arcOf b text slash m f (i .head) p ≡ x → eqb (i .head .kind) 4 ≡ false
-            → foundRefusal b text slash n m f (i .head) rows (spelled (sheetAt b n m f) now) x ≡ 0
-            → (foundWritten b text slash n m f (i .head) rows (spelled (sheetAt b n m f) now) x
-            ≡ spelled (sheetAt b n m f) (changedAt (entryOf word text slash i) (means p) now))
-            × Fine (changedAt (entryOf word text slash i) (means p) now)
+        other : (x : Found) → found p ≡ x → eqb (i .head .kind) 4 ≡ false
+            → foundRefusal b text slash n m f (i .head) rows (bytesOf now) x ≡ 0
+            → (foundWritten b text slash n m f (i .head) rows (bytesOf now) x
+            ≡ bytesOf (changedAt e (means p) now))
+            × Fine (changedAt e (means p) now)
         other (At q) a d z =
             let w = found-is p q d a in
             let same : means p ≡ (λ l. eqb l (w .0)) = fun-ext (w .3) in
             rw (w .2, same) (laws .arc-written now fine (w .0) (w .1) (rw (w .2) at z))
         other Nothing a d z = absurd (omega arith)
 
-        hit : ℕ → Bool
-        hit k = deviceHit b text slash (i .head) p (place b k f)
-
-        all : eqb (i .head .kind) 4 ≡ true → (l : ℕ) (t : Bool) → ltb l m ≡ t → means p l ≡ and (hit l) t
-        all d l true x = sym (hit-is p l (ltb-true l m x) d) ∙ sym (and-all (hit l))
-        all d l false x = arc-past b bytes n m f good (matches (pathAt b p) (entryOf word text slash i)) l (ltb-false l m x) ∙ sym (and-none (hit l))
+        all : eqb (i .head .kind) 4 ≡ true → (l : ℕ) (t : Bool) → ltb l m ≡ t → means p l ≡ and (hits p l) t
+        all d l true x = sym (hit-is p l (ltb-true l m x) d) ∙ sym (and-all (hits p l))
+        all d l false x = arc-past b bytes n m f good (matches (pathAt b p) e) l (ltb-false l m x) ∙ sym (and-none (hits p l))
 
         least : (t : Bool) → (x : ℕ) → pick t x 14 ≡ 0 → x ≡ 0
         least true x z = z
         least false x z = absurd (omega arith)
 
         go : (t : Bool) → eqb (i .head .kind) 4 ≡ t
-            → pick t (deviceRefusal b text slash n m f (i .head) rows (spelled (sheetAt b n m f) now) p)
-            (foundRefusal b text slash n m f (i .head) rows (spelled (sheetAt b n m f) now) (arcOf b text slash m f (i .head) p)) ≡ 0
-            → (pick t (deviceWritten b text slash n m f (i .head) rows (spelled (sheetAt b n m f) now) p)
-            (foundWritten b text slash n m f (i .head) rows (spelled (sheetAt b n m f) now) (arcOf b text slash m f (i .head) p))
-            ≡ spelled (sheetAt b n m f) (changedAt (entryOf word text slash i) (means p) now))
-            × Fine (changedAt (entryOf word text slash i) (means p) now)
+            → pick t (deviceRefusal b text slash n m f (i .head) rows (bytesOf now) p)
+            (foundRefusal b text slash n m f (i .head) rows (bytesOf now) (found p)) ≡ 0
+            → (pick t (deviceWritten b text slash n m f (i .head) rows (bytesOf now) p)
+            (foundWritten b text slash n m f (i .head) rows (bytesOf now) (found p))
+            ≡ bytesOf (changedAt e (means p) now))
+            × Fine (changedAt e (means p) now)
         go true d z =
-            let same : means p ≡ (λ l. and (hit l) (ltb l m)) = fun-ext (λ l. all d l (ltb l m) refl) in
-            rw same (laws .hits-written now fine hit m (omega arith) (least (someOf hit m) _ z))
-        go false d z = other (arcOf b text slash m f (i .head) p) refl d z
+            let same : means p ≡ (λ l. and (hits p l) (ltb l m)) = fun-ext (λ l. all d l (ltb l m) refl) in
+            rw same (laws .hits-written now fine (hits p) m (omega arith) (least (someOf (hits p) m) _ z))
+        go false d z = other (found p) refl d z
