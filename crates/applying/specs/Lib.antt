@@ -8,3 +8,4 @@ pub mod Below
 pub mod Instances
 pub mod Addressed
 pub mod Every
+pub mod Steps
