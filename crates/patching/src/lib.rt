@@ -1,0 +1,1 @@
+// What patching does to a sheet, in bytes: definitions and laws for the patch. No code.
