@@ -1,0 +1,1 @@
+// Document 01's worked figures as one theorem. No code.
