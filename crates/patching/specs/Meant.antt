@@ -17,14 +17,17 @@ use Rattle.sheetlaws.specs.Sheet.{inEnd, nth, place}
 use Rattle.sheet.specs.Find.{wanted, key-order, key-same}
 use Rattle.grammar.specs.declared.Entry as read
 use Rattle.grammar.specs.Meaning.{Item}
-use Rattle.history.specs.Sheet.{Instance, Key, Records, Entry, Cell, at, every, matches, applies, addresses, cellNumber}
+use Rattle.history.specs.Sheet.{Instance, Key, Records, Values, Entry, Cell, at, every, matches, applies, addresses, lacks, cellNumber}
 use Rattle.history.specs.Events.{anyOf}
+use Rattle.history.specs.EventLaws.{any-none, any-false, none≢some}
 use Rattle.slots.specs.Slots.{asKey}
+use Rattle.amounts.specs.Laws.{firstOf}
 use Rattle.applying.specs.Says.{entryOf}
-use Rattle.applying.specs.Judged.{arcIs}
+use Rattle.applying.specs.Judged.{arcIs, failsAt, refusalOf, arc-addressed}
 use Rattle.applying.specs.Bytes.{someOf, deviceHit}
-use Rattle.applying.specs.Below.{bool-same}
+use Rattle.applying.specs.Below.{bool-same, below-cong, some-any}
 use Rattle.applying.specs.Instances.{recordsAt, wants, wants-means, means-wants, arc-is, hit-is}
+use Rattle.applying.specs.Addressed.{placeOf, one-applied, every-of}
 
 module _ (b text : List ℕ) (slash : Bool) (h : read.Entry) where
   -- the entry h, applied to the instance at p, means the arc at q
@@ -42,6 +45,38 @@ module _ (b text : List ℕ) (slash : Bool) (h : read.Entry) where
 unfoldable pub mayTouch : (b text : List ℕ) (slash : Bool) (from to q : ℕ) → Bool
 mayTouch b text slash from to q =
     or (eqb (front (keyAt b q .first) (canon slash (partOf text from to))) 1) (eqb (front (keyAt b q .second) (canon slash (partOf text from to))) 1)
+
+-- Any records.
+
+-- the first of three that applies is 14 exactly if the first does
+first-14 : (x y z : Bool) → eqb (firstOf x y z) 14 ≡ x
+unfolding firstOf
+first-14 true y z = refl
+first-14 false true z = refl
+first-14 false false true = refl
+first-14 false false false = refl
+
+module _ (records : Records) {Word : Type 0} (c : Cell Word) (e : Entry Word) where
+  -- 'Another cell that 12 or 13 would refuse supplies nothing': no instance applies, so it means no arc
+  pub meant-none : (x : ℕ) → cellNumber records c ≡ some x → (j : ℕ) → arcIs records (addresses records c e) j ≡ false
+  unfolding cellNumber
+  meant-none x q j =
+      arc-addressed records c e j
+      ∙ any-none _ (records .instances) (λ y l. rw (any-false (applies c) (records .instances) y (go (anyOf (applies c) (records .instances)) _ q) l))
+    where
+      go : (t : Bool) (o : Option ℕ) → pick t none o ≡ some x → t ≡ false
+      go true o z = absurd (none≢some z)
+      go false o z = refl
+
+  -- 'some addressed instance lacks the arc': the refusal is 14 there and nowhere else
+  pub refused-lacks : (now : Values) → eqb (refusalOf records c e now) 14 ≡ lacks records c e
+  unfolding refusalOf
+  refused-lacks now = first-14 (lacks records c e) (fails 15) (fails 16)
+    where
+      fails : ℕ → Bool
+      fails x = anyOf (λ (y : Instance). and (applies c y) (failsAt records (y .path) e x now)) (records .instances)
+
+-- A sheet that was checked.
 
 module _ (b : List ℕ) (bytes : Bytes b) (n m f : ℕ) (good : checkOf b ≡ Good n m f) (text : List ℕ) (slash : Bool) {Word : Type 0} (word : ℕ → Word)
     (i : Item) where
@@ -67,3 +102,22 @@ module _ (b : List ℕ) (bytes : Bytes b) (n m f : ℕ) (good : checkOf b ≡ Go
           ≡ arcIs (recordsAt b n m f) (matches (pathAt b p) e) j
       go true d = hit-is b bytes n m f good text slash word i [] p j h d
       go false d = key-is d ∙ sym (arc-is b bytes n m f good (matches (pathAt b p) e) j h)
+
+  module _ (c : Cell Word) where
+    -- a cell with the path of instance number k and its type means what it means there
+    pub meant-one : (k : ℕ) → k < n → c .part ≡ at (pathAt b (placeOf b k)) → sameText (typeAt b (placeOf b k)) (c .type) ≡ true → (j : ℕ) → j < m
+        → meantIn b text slash (i .head) (placeOf b k) (place b j f) ≡ arcIs (recordsAt b n m f) (addresses (recordsAt b n m f) c e) j
+    meant-one k l p d j h =
+        meant-is (placeOf b k) j h ∙ sym (one-applied b bytes n m f good c k l p d e j) ∙ sym (arc-addressed (recordsAt b n m f) c e j)
+
+    -- `*` means what it means in some instance of its type
+    pub meant-every : c .part ≡ every → (j : ℕ) → j < m
+        → meantEvery b text slash (i .head) n (c .type) (place b j f) ≡ arcIs (recordsAt b n m f) (addresses (recordsAt b n m f) c e) j
+    unfolding meantEvery
+    meant-every p j h =
+        some-any _ n
+        ∙ below-cong (λ k. and (sameText (typeAt b (placeOf b k)) (c .type)) (meantIn b text slash (i .head) (placeOf b k) (place b j f)))
+        (λ k. and (sameText (typeAt b (placeOf b k)) (c .type)) (arcIs (recordsAt b n m f) (matches (pathAt b (placeOf b k)) e) j)) n
+        (λ k l. rw (meant-is (placeOf b k) j h))
+        ∙ sym (every-of b bytes n m f good c p (λ x. arcIs (recordsAt b n m f) (matches x e) j))
+        ∙ sym (arc-addressed (recordsAt b n m f) c e j)
