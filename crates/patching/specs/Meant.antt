@@ -5,31 +5,35 @@ use mathlib.Core.Path.{_≡_, refl, sym, ap, _∙_}
 use mathlib.Core.Bool.{Bool, true, false}
 use mathlib.Core.List.{List, [], _∷_, _++_}
 use mathlib.Core.Option.{Option, none, some}
-use lib.Dec.{eqb, ltb}
-use borrow.Author.Tests.{eqb-true, eq-eqb}
+use native.Mathlib.Omega.{arith}
+use lib.Dec.{eqb}
+use borrow.Author.Tests.{eqb-true, eq-eqb, le-ltb}
 use Rattle.classes.specs.Choice.{pick, and, or}
 use Rattle.wire.specs.Wire.{Bytes}
-use Rattle.names.specs.Order.{sameText, front}
-use Rattle.names.specs.Name.{canon, partOf}
+use Rattle.names.specs.Order.{sameText, front, front-nil}
+use Rattle.names.specs.Name.{canon, full, sameName, lastOf, oneBelow, partOf, both}
+use Rattle.names.specs.Laws.{name-exactly}
 use Rattle.sheetform.specs.Form.{keyAt, pathAt, typeAt, cmpKey, checkOf}
 use Rattle.sheetform.specs.declared.SheetCheck.the-variants.{Good}
 use Rattle.sheetlaws.specs.Sheet.{inEnd, nth, place}
 use Rattle.sheet.specs.Find.{wanted, key-order, key-same}
-use Rattle.grammar.specs.declared.Entry as read
+use Rattle.grammar.specs.declared.Entry as read-entry
+use Rattle.grammar.specs.declared.Cell as read-cell
 use Rattle.grammar.specs.Meaning.{Item}
-use Rattle.history.specs.Sheet.{Instance, Key, Records, Values, Entry, Cell, at, every, matches, applies, addresses, lacks, cellNumber}
+use Rattle.history.specs.Sheet.{Instance, Key, Records, Values, Entry, Cell, at, every, endName, endsAt, matches, partIs, applies, addresses, lacks, cellNumber}
+use Rattle.history.specs.Addressing.{matches-key}
 use Rattle.history.specs.Events.{anyOf}
-use Rattle.history.specs.EventLaws.{any-none, any-false, none≢some}
+use Rattle.history.specs.EventLaws.{clash, any-none, any-false, none≢some}
 use Rattle.slots.specs.Slots.{asKey}
 use Rattle.amounts.specs.Laws.{firstOf}
-use Rattle.applying.specs.Says.{entryOf}
+use Rattle.applying.specs.Says.{nameAt, entryOf, partAt, cellOf}
 use Rattle.applying.specs.Judged.{arcIs, failsAt, refusalOf, arc-addressed}
 use Rattle.applying.specs.Bytes.{someOf, deviceHit}
-use Rattle.applying.specs.Below.{bool-same, below-cong, some-any}
+use Rattle.applying.specs.Below.{bool-same, not-so, or-all, below-cong, some-any}
 use Rattle.applying.specs.Instances.{recordsAt, wants, wants-means, means-wants, arc-is, hit-is}
 use Rattle.applying.specs.Addressed.{placeOf, one-applied, every-of}
 
-module _ (b text : List ℕ) (slash : Bool) (h : read.Entry) where
+module _ (b text : List ℕ) (slash : Bool) (h : read-entry.Entry) where
   -- the entry h, applied to the instance at p, means the arc at q
   unfoldable pub meantIn : ℕ → ℕ → Bool
   meantIn p q =
@@ -41,10 +45,22 @@ module _ (b text : List ℕ) (slash : Bool) (h : read.Entry) where
   unfoldable pub meantEvery : ℕ → List ℕ → ℕ → Bool
   meantEvery n type q = someOf (λ k. and (sameText (typeAt b (nth (inEnd b) k 12)) type) (meantIn (nth (inEnd b) k 12) q)) n
 
--- A cell whose path is neither a front part of the arc's first end nor of its second cannot mean it.
+-- A cell with a path may mean the arc at q only if the path is a front part of the arc's first end or of its second.
 unfoldable pub mayTouch : (b text : List ℕ) (slash : Bool) (from to q : ℕ) → Bool
 mayTouch b text slash from to q =
     or (eqb (front (keyAt b q .first) (canon slash (partOf text from to))) 1) (eqb (front (keyAt b q .second) (canon slash (partOf text from to))) 1)
+
+-- A full name has its path as a front part.
+
+front-append : (p z : List ℕ) → front (p ++ z) p ≡ 1
+unfolding front
+front-append [] z = front-nil z
+front-append (c ∷ r) z = rw (le-ltb c c (omega arith)) (front-append r z)
+
+front-full : (p x : List ℕ) → front (full p x) p ≡ 1
+unfolding full
+front-full [] x = front-nil x
+front-full (c ∷ r) x = front-append (c ∷ r) (46 ∷ x)
 
 -- Any records.
 
@@ -121,3 +137,44 @@ module _ (b : List ℕ) (bytes : Bytes b) (n m f : ℕ) (good : checkOf b ≡ Go
         (λ k l. rw (meant-is (placeOf b k) j h))
         ∙ sym (every-of b bytes n m f good c p (λ x. arcIs (recordsAt b n m f) (matches x e) j))
         ∙ sym (arc-addressed (recordsAt b n m f) c e j)
+
+  -- an arc that the entry means in the instance with this path has the path as a front part of an end
+  front-means : (p : List ℕ) (k : Key) → matches p e k ≡ true → or (eqb (front (k .end1) p) 1) (eqb (front (k .end2) p) 1) ≡ true
+  unfolding matches entryOf endsAt endName oneBelow
+  front-means p k = by (eqb (i .head .kind) 4) refl
+    where
+      at-front : (name x : List ℕ) → sameName name (full p x) ≡ true → eqb (front name p) 1 ≡ true
+      at-front name x z = rw (name-exactly name (full p x) .0 z, front-full p x)
+
+      ends : (t : Bool) (name : List ℕ) → endsAt p (pick t none (some name)) (k .end2) ≡ true → eqb (front (k .end2) p) 1 ≡ true
+      ends true name z = at-front (k .end2) (lastOf (k .end2)) z
+      ends false name z = at-front (k .end2) name z
+
+      by : (t : Bool) → eqb (i .head .kind) 4 ≡ t → matches p e k ≡ true → or (eqb (front (k .end1) p) 1) (eqb (front (k .end2) p) 1) ≡ true
+      by true d z =
+          rw (ends (eqb (i .head .to1) 0) (nameAt word text slash (i .head .from1) (i .head .to1)) (both (eqb (k .kind) 1) _ (rw d at z) .1))
+          (or-all (eqb (front (k .end1) p) 1))
+      by false d z =
+          let x = rw d at (ap (λ (y : Key). y .end1) (matches-key p e k d z)) in
+          rw (x, front-full p (nameAt word text slash (i .head .from1) (i .head .to1)))
+
+  -- so a cell with another path does not mean it
+  pub may-touch : (cell : read-cell.Cell) (l : List Item) → eqb (cell .sort) 2 ≡ false → (j : ℕ)
+      → mayTouch b text slash (cell .pathfrom) (cell .pathto) (place b j f) ≡ false → j < m
+      → arcIs (recordsAt b n m f) (addresses (recordsAt b n m f) (cellOf word text slash cell l) e) j ≡ false
+  unfolding mayTouch cellOf partAt nameAt applies partIs asKey
+  may-touch cell l s j z h =
+      arc-addressed (recordsAt b n m f) (cellOf word text slash cell l) e j
+      ∙ any-none _ (recordsAt b n m f .instances) (λ y g. not-so _ (λ q. none-so y q))
+    where
+      path : List ℕ
+      path = canon slash (partOf text (cell .pathfrom) (cell .pathto))
+
+      there : (y : Instance) → applies (cellOf word text slash cell l) y ≡ true → y .path ≡ path
+      there y q = name-exactly (y .path) path .0 (both (sameName (y .path) path) _ (rw s at q) .0)
+
+      none-so : (y : Instance) → and (applies (cellOf word text slash cell l) y) (arcIs (recordsAt b n m f) (matches (y .path) e) j) ≡ true → ⊥
+      none-so y q =
+          let w = both (applies (cellOf word text slash cell l) y) _ q in
+          clash (sym z ∙ front-means path (asKey (keyAt b (place b j f)))
+          (rw (there y (w .0)) at (sym (arc-is b bytes n m f good (matches (y .path) e) j h) ∙ w .1)))
