@@ -42,7 +42,7 @@ pub or-none : (a : Bool) → or a false ≡ a
 or-none true = refl
 or-none false = refl
 
-or-all : (a : Bool) → or a true ≡ true
+pub or-all : (a : Bool) → or a true ≡ true
 or-all true = refl
 or-all false = refl
 

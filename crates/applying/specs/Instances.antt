@@ -65,11 +65,11 @@ alike k kind edge edge2 first second e1 e2 e3 e4 e5 = rw (e1, e2, e3, e4, e5)
 -- The key that an entry wants, and the keys that it matches.
 
 module _ (text : List ℕ) (slash : Bool) {Word : Type 0} (word : ℕ → Word) (i : Item) where
-  abbrev entry : Entry Word
+  abbrev pub entry : Entry Word
   entry = entryOf word text slash i
 
   -- the key that it wants in the instance with this path
-  abbrev wants : List ℕ → form.Key
+  abbrev pub wants : List ℕ → form.Key
   wants path =
       wanted slash (i .head .kind) (i .head .edge1) (i .head .edge2) path (partOf text (i .head .from1) (i .head .to1))
       (partOf text (i .head .from2) (i .head .to2))
@@ -95,7 +95,7 @@ module _ (text : List ℕ) (slash : Bool) {Word : Type 0} (word : ℕ → Word) 
   second-is path false name = refl
 
   -- any other means the arc with the key that it wants
-  wants-means : (path : List ℕ) → eqb (i .head .kind) 4 ≡ false → matches path entry (asKey (wants path)) ≡ true
+  pub wants-means : (path : List ℕ) → eqb (i .head .kind) 4 ≡ false → matches path entry (asKey (wants path)) ≡ true
   unfolding matches entryOf asKey nameAt endName wanted secondWanted
   wants-means path d =
       rw (
@@ -108,7 +108,7 @@ module _ (text : List ℕ) (slash : Bool) {Word : Type 0} (word : ℕ → Word) 
         same-self,
       )
 
-  means-wants : (path : List ℕ) (k : form.Key) → eqb (i .head .kind) 4 ≡ false → matches path entry (asKey k) ≡ true → k ≡ wants path
+  pub means-wants : (path : List ℕ) (k : form.Key) → eqb (i .head .kind) 4 ≡ false → matches path entry (asKey k) ≡ true → k ≡ wants path
   unfolding entryOf asKey nameAt endName wanted secondWanted
   means-wants path k d e =
       let q = matches-key path entry (asKey k) d e in

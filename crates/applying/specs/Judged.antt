@@ -152,7 +152,7 @@ module _ (records : Records) {Word : Type 0} where
       firstOf (lacks records c e) (anyOf (λ (i : Instance). and (applies c i) (failsAt (i .path) e 15 now)) (records .instances))
       (anyOf (λ (i : Instance). and (applies c i) (failsAt (i .path) e 16 now)) (records .instances))
 
-  given-is : (c : Cell Word) (e : Entry Word) (t : Slot) → given records c e t ≡ pick (arcIs records (addresses records c e) (t .arc)) (supply e t) nothing
+  pub given-is : (c : Cell Word) (e : Entry Word) (t : Slot) → given records c e t ≡ pick (arcIs records (addresses records c e) (t .arc)) (supply e t) nothing
   unfolding given ifArc arcIs keyIs supply
   given-is c e t = go (getElem? (records .arcs) (t .arc))
     where
@@ -160,7 +160,7 @@ module _ (records : Records) {Word : Type 0} where
       go none = refl
       go (some k) = refl
 
-  arc-addressed : (c : Cell Word) (e : Entry Word) (j : ℕ)
+  pub arc-addressed : (c : Cell Word) (e : Entry Word) (j : ℕ)
       → arcIs records (addresses records c e) j ≡ anyOf (λ (i : Instance). and (applies c i) (arcIs records (matches (i .path) e) j)) (records .instances)
   unfolding arcIs keyIs addresses
   arc-addressed c e j = go (getElem? (records .arcs) j)
