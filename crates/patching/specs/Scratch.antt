@@ -1,22 +1,31 @@
 -- The eighteen values of one arc, run in 144 bytes of their own: an entry is let through to the slots that are touched, and what these come to
 -- is written back to the sheet.
 -- Assumes nothing.
-use Prim.Native.Nat.{ℕ, zero, suc, _+_, _*_, _/_, _%_, _≤_, _<_}
-use mathlib.Core.Path.{_≡_, refl, ap, _∙_}
+use Prim.Native.Nat.{ℕ, zero, suc, _+_, _*_, _/_, _%_, _≤_, _<_, _^_}
+use mathlib.Core.Path.{_≡_, refl, sym, ap, _∙_}
 use mathlib.Core.Bool.{Bool, true, false, not}
 use mathlib.Core.List.{List, [], _∷_}
+use mathlib.Core.Option.{none, some}
 use native.Mathlib.Omega.{arith}
 use native.Mathlib.Nat.{add-zero, zero-add}
-use lib.Dec.{eqb}
+use lib.Dec.{eqb, leb, ltb}
+use lib.IntN.{natAbs, _+ℤ_}
 use lib.ListN.{length, getD}
+use lib.Seq.{paste, length-paste}
+use mir.Syntax.{w64}
+use mir.ValLaws.{ofZ-fits}
+use borrow.Author.Tests.{ltb-true, ltb-false, leb-true, eqb-true, eqb-false, lt-ltb, le-ltb, eq-eqb}
 use Rattle.classes.specs.Choice.{pick, and}
-use Rattle.wire.specs.Wire.{be64}
-use Rattle.history.specs.Events.{step, failsWith, anyOf}
+use Rattle.wire.specs.Wire.{be64, beBytes}
+use Rattle.wire.specs.Frame.{number-back, number-before, number-behind}
+use Rattle.history.specs.Events.{limit, Value, holds, fails, summed, step, final, failsWith, anyOf}
 use Rattle.history.specs.Ranges.{InRange}
-use Rattle.history.specs.Sheet.{Slot, Values, Entry, each, below, arcSlots}
-use Rattle.slots.specs.Slots.{wordOf, slotAt}
-use Rattle.amounts.specs.Amounts.{empty, given, refusal, arcRefusal}
-use Rattle.amounts.specs.Laws.{firstOf, lesser-first, held-first, isAdd, refusal-is}
+use Rattle.history.specs.Sheet.{Slot, Values, Group, absolute, increment, check, Entry, each, giving, below, arcSlots}
+use Rattle.slots.specs.Slots.{numeral, wordOf, slotNumber, slotAt}
+use Rattle.slots.specs.Numbers.{slot-at, slot-below, value-fits}
+use Rattle.slots.specs.Spelled.{start}
+use Rattle.amounts.specs.Amounts.{empty, lesser, given, refusal, changed, arcRefusal, valueWritten, arcWritten}
+use Rattle.amounts.specs.Laws.{firstOf, lesser-first, heldRefusal, held-first, isAdd, word-is-empty, given-none, refusal-is, changed-is}
 use Rattle.applying.specs.Judged.{any-below, supply}
 use Rattle.applying.specs.Arcs.{number, Expanded}
 
@@ -131,3 +140,193 @@ module _ {Word : Type 0} {e : Entry Word} {rows : List (List ℕ)} {add : Bool} 
       ≡ firstOf false (anyOf (λ (t : Slot). and (touched t) (failsWith 15 (step (now t) (supply e t)))) (arcSlots j))
       (anyOf (λ (t : Slot). and (touched t) (failsWith 16 (step (now t) (supply e t)))) (arcSlots j))
   scratch-refusal = rw (by-number (fails-at 15) j, by-number (fails-at 16) j) (slots-refusal 18 (omega arith))
+
+-- 3. What is written
+
+-- the lesser of two refusals is none: neither is there
+lesser-zero : (a c : ℕ) → lesser a c ≡ 0 → (a ≡ 0) × (c ≡ 0)
+unfolding lesser
+lesser-zero a c = by (eqb a 0) refl (eqb c 0) refl (leb a c)
+  where
+    by : (y : Bool) → eqb a 0 ≡ y → (z : Bool) → eqb c 0 ≡ z → (w : Bool) → pick y c (pick z a (pick w a c)) ≡ 0 → (a ≡ 0) × (c ≡ 0)
+    by true p z q w r = (eqb-true a 0 p, r)
+    by false p true q w r = (r, eqb-true c 0 q)
+    by false p false q true r = absurd (eqb-false a 0 p r)
+    by false p false q false r = absurd (eqb-false c 0 q r)
+
+-- nothing is refused among the first i, and so not at any of them
+each-zero : (out : List ℕ) (start : ℕ) (rows : List (List ℕ)) (add : Bool) (i k : ℕ) → k < i → arcRefusal out start rows add i ≡ 0
+    → refusal add (be64 out (start + 8 * k)) (given rows k) ≡ 0
+unfolding arcRefusal
+each-zero out start rows add zero k l z = absurd (omega arith)
+each-zero out start rows add (suc i) k l z =
+    let both : (arcRefusal out start rows add i ≡ 0) × (refusal add (be64 out (start + 8 * i)) (given rows i) ≡ 0) = lesser-zero _ _ z in
+    by (eqb k i) refl (both .1) (λ g. each-zero out start rows add i k g (both .0))
+  where
+    by : (y : Bool) → eqb k i ≡ y → refusal add (be64 out (start + 8 * i)) (given rows i) ≡ 0
+        → (k < i → refusal add (be64 out (start + 8 * k)) (given rows k) ≡ 0) → refusal add (be64 out (start + 8 * k)) (given rows k) ≡ 0
+    by true p last before = rw (eqb-true k i p) last
+    by false p last before = let q = eqb-false k i p in before (omega arith)
+
+-- a step that does not fail keeps the range
+held-range : (g : Group) (v w : Value) → InRange v → InRange w → heldRefusal (step v (giving g w)) ≡ 0 → InRange (final (step v (giving g w)))
+unfolding giving step summed final heldRefusal
+held-range absolute v none r q z = r
+held-range increment v none r q z = r
+held-range check v none r q z = r
+held-range absolute v (some t) r q z = q
+held-range check v (some t) r q z = q
+held-range increment none (some t) r q z = absurd (omega arith)
+held-range increment (some u) (some t) r q z = by (leb (natAbs (u +ℤ t)) limit) refl z
+  where
+    by : (y : Bool) → leb (natAbs (u +ℤ t)) limit ≡ y → heldRefusal (pick y (holds (some (u +ℤ t))) (fails 16)) ≡ 0
+        → InRange (final (pick y (holds (some (u +ℤ t))) (fails 16)))
+    by true p k = leb-true (natAbs (u +ℤ t)) limit p
+    by false p k = absurd (omega arith)
+
+no-bool : _≡_ {A = Bool} false true → ⊥
+no-bool p = let z : _≡_ {A = ℕ} 0 1 = cc in omega arith
+
+-- a number other than i is below i + 1 if it is below i
+one-more : (k i : ℕ) → (k ≡ i → ⊥) → ltb k (suc i) ≡ ltb k i
+one-more k i d = by (ltb k i) refl
+  where
+    by : (y : Bool) → ltb k i ≡ y → ltb k (suc i) ≡ y
+    by true p = let q = ltb-true k i p in lt-ltb k (suc i) (omega arith)
+    by false p = let q = ltb-false k i p in le-ltb k (suc i) (omega arith)
+
+-- 64 bits hold a value
+word-fits : (v : Value) → InRange v → wordOf v < 2 ^ 64
+unfolding wordOf
+word-fits v r = ofZ-fits w64 (numeral v) (value-fits v r) .fits
+
+-- word i of the scratch is written: the others stay
+one-written : (d : List ℕ) (i k c : ℕ) → length d ≡ 144 → i < 18 → k < 18 → c < 2 ^ 64
+    → be64 (paste d (8 * i) (beBytes c) 8) (8 * k) ≡ pick (eqb k i) c (be64 d (8 * k))
+one-written d i k c s l g f = by (eqb k i) refl (ltb k i) refl
+  where
+    by : (y : Bool) → eqb k i ≡ y → (z : Bool) → ltb k i ≡ z
+        → be64 (paste d (8 * i) (beBytes c) 8) (8 * k) ≡ pick y c (be64 d (8 * k))
+    by true p z q = rw (eqb-true k i p) (number-back d (8 * i) c (omega arith) f)
+    by false p true q = let a = ltb-true k i q in number-before d (8 * i) (8 * k) c (omega arith) (omega arith)
+    by false p false q =
+        let a = ltb-false k i q in
+        let b = eqb-false k i p in
+        number-behind d (8 * i) (8 * k) c (omega arith) (omega arith)
+
+-- or is written as it was
+one-kept : (d : List ℕ) (i k c : ℕ) → be64 d (8 * i) ≡ c → be64 d (8 * k) ≡ pick (eqb k i) c (be64 d (8 * k))
+one-kept d i k c s = by (eqb k i) refl
+  where
+    by : (y : Bool) → eqb k i ≡ y → be64 d (8 * k) ≡ pick y c (be64 d (8 * k))
+    by true p = rw (eqb-true k i p) s
+    by false p = refl
+
+-- d is the scratch o with c for its word i
+record Next (o d : List ℕ) (i c : ℕ) : Type 0 where
+  size : length d ≡ 144
+  words : (k : ℕ) → k < 18 → be64 d (8 * k) ≡ pick (eqb k i) c (be64 o (8 * k))
+
+module _ {Word : Type 0} {e : Entry Word} {rows : List (List ℕ)} {add : Bool} (x : Expanded e rows add) {st : List ℕ} {j : ℕ} {now : Values}
+    (h : Holds18 st j now) {flags : List ℕ} {touched : Slot → Bool} (g : Flags flags j touched)
+    (calm : arcRefusal st 0 (masked rows flags) add 18 ≡ 0) where
+  -- the values behind the entry
+  abbrev after : Values
+  after t = pick (and (eqb (t .arc) j) (touched t)) (final (step (now t) (supply e t))) (now t)
+
+  -- at the arc's slots
+  after-at : (i : ℕ) → after (slotAt j i)
+      ≡ pick (touched (slotAt j i)) (final (step (now (slotAt j i)) (supply e (slotAt j i)))) (now (slotAt j i))
+  unfolding slotAt
+  after-at i = rw (eq-eqb j j refl)
+
+  -- a touched slot is not refused its number
+  slot-calm : (i : ℕ) → i < 18 → touched (slotAt j i) ≡ true
+      → refusal (isAdd (e .group)) (wordOf (now (slotAt j i))) (wordOf (number e (slotAt j i))) ≡ 0
+  slot-calm i l p = rw (zero-add (8 * i), given-is x h g i l, x .adds, h .words i l, p) at (each-zero st 0 (masked rows flags) add 18 i l calm)
+
+  -- and keeps the range
+  slot-range : (i : ℕ) → i < 18 → touched (slotAt j i) ≡ true → InRange (final (step (now (slotAt j i)) (supply e (slotAt j i))))
+  unfolding supply
+  slot-range i l p =
+      let u = slotAt j i in
+      held-range (e .group) (now u) (number e u) (h .fine u) (x .times u)
+      (sym (refusal-is (e .group) (now u) (number e u) (h .fine u) (x .times u)) ∙ slot-calm i l p)
+
+  -- as all values do
+  after-range : (t : Slot) → InRange (after t)
+  after-range t = by (eqb (t .arc) j) refl (touched t) refl
+    where
+      by : (y : Bool) → eqb (t .arc) j ≡ y → (z : Bool) → touched t ≡ z → InRange (pick (and y z) (final (step (now t) (supply e t))) (now t))
+      by false p z q = h .fine t
+      by true p false q = h .fine t
+      by true p true q =
+          let s : slotAt j (slotNumber t) ≡ t = ap (λ k. slotAt k (slotNumber t)) (sym (eqb-true (t .arc) j p)) ∙ slot-at t in
+          rw s at (slot-range (slotNumber t) (slot-below t) (ap touched s ∙ q))
+
+  -- one value written
+  slot-written : (o : List ℕ) (i : ℕ) → i < 18 → length o ≡ 144 → be64 o (8 * i) ≡ wordOf (now (slotAt j i))
+      → Next o (valueWritten o (0 + 8 * i) (given (masked rows flags) i) add) i (wordOf (after (slotAt j i)))
+  unfolding valueWritten supply
+  slot-written o i l s w = rw (zero-add (8 * i), given-is x h g i l, after-at i) (by (touched u) refl)
+    where
+      u : Slot
+      u = slotAt j i
+
+      v : Value
+      v = final (step (now u) (giving (e .group) (number e u)))
+
+      kept : (c : ℕ) → be64 o (8 * i) ≡ c → Next o o i c
+      kept c q = record { size = s; words = λ k a. one-kept o i k c q }
+
+      filled : touched u ≡ true → (z : Bool) → eqb (wordOf (number e u)) empty ≡ z
+          → Next o (pick z o (paste o (8 * i) (beBytes (changed add (be64 o (8 * i)) (wordOf (number e u)))) 8)) i (wordOf v)
+      filled p true q =
+          let a : number e u ≡ none = word-is-empty (number e u) (x .times u) .0 q in
+          kept (wordOf v) (w ∙ rw (a, given-none (e .group) (now u)))
+      filled p false q =
+          let a : number e u ≡ none → ⊥ = λ r. no-bool (sym q ∙ word-is-empty (number e u) (x .times u) .1 r) in
+          let r : InRange v = slot-range i l p in
+          rw (w, x .adds, changed-is (e .group) (now u) (number e u) (h .fine u) (x .times u) a (slot-calm i l p))
+          (record {
+            size = length-paste o (8 * i) (beBytes (wordOf v)) 8 (omega arith) (omega arith) ∙ s;
+            words = λ k b. one-written o i k (wordOf v) s l b (word-fits v r);
+          })
+
+      by : (y : Bool) → touched u ≡ y
+          → Next o (pick (eqb (pick y (wordOf (number e u)) empty) empty) o
+          (paste o (8 * i) (beBytes (changed add (be64 o (8 * i)) (pick y (wordOf (number e u)) empty))) 8)) i (wordOf (pick y v (now u)))
+      by false p = kept (wordOf (now u)) w
+      by true p = filled p (eqb (wordOf (number e u)) empty) refl
+
+  -- the first i are, the others are not yet
+  record Written (d : List ℕ) (i : ℕ) : Type 0 where
+    size : length d ≡ 144
+    words : (k : ℕ) → k < 18 → be64 d (8 * k) ≡ pick (ltb k i) (wordOf (after (slotAt j k))) (wordOf (now (slotAt j k)))
+
+  slots-written : (i : ℕ) → i ≤ 18 → Written (arcWritten st 0 (masked rows flags) add i) i
+  unfolding arcWritten
+  slots-written zero l = record { size = h .size; words = λ k a. h .words k a ∙ rw (le-ltb k 0 (omega arith)) }
+  slots-written (suc i) l = step-on (slots-written i (omega arith))
+    where
+      o : List ℕ
+      o = arcWritten st 0 (masked rows flags) add i
+
+      step-on : Written o i → Written (valueWritten o (0 + 8 * i) (given (masked rows flags) i) add) (suc i)
+      step-on was =
+          let here : be64 o (8 * i) ≡ wordOf (now (slotAt j i)) = was .words i (omega arith) ∙ rw (le-ltb i i (omega arith)) in
+          let n = slot-written o i (omega arith) (was .size) here in
+          record { size = n .size; words = λ k a. n .words k a ∙ rw (was .words k a) (by k (eqb k i) refl) }
+        where
+          by : (k : ℕ) (y : Bool) → eqb k i ≡ y
+              → pick y (wordOf (after (slotAt j i))) (pick (ltb k i) (wordOf (after (slotAt j k))) (wordOf (now (slotAt j k))))
+              ≡ pick (ltb k (suc i)) (wordOf (after (slotAt j k))) (wordOf (now (slotAt j k)))
+          by k true p = let q = eqb-true k i p in rw (q, lt-ltb i (suc i) (omega arith))
+          by k false p = rw (one-more k i (eqb-false k i p))
+
+  -- what is not refused leaves in the touched slots what their steps come to
+  pub scratch-written : Holds18 (arcWritten st 0 (masked rows flags) add 18) j
+      (λ t. pick (and (eqb (t .arc) j) (touched t)) (final (step (now t) (supply e t))) (now t))
+  scratch-written =
+      let w = slots-written 18 (omega arith) in
+      record { size = w .size; words = λ k a. w .words k a ∙ rw (lt-ltb k 18 a); fine = after-range }
