@@ -10,20 +10,24 @@ use native.Mathlib.Omega.{arith}
 use native.Mathlib.Nat.{add-zero, zero-add}
 use lib.Dec.{eqb, leb, ltb}
 use lib.IntN.{natAbs, _+ℤ_}
-use lib.ListN.{length, getD}
-use lib.Seq.{paste, length-paste}
+use lib.ListN.{length, getD, take, drop, length-drop}
+use lib.Seq.{paste, length-paste, length-take-le, getD-take, getD-drop}
 use mir.Syntax.{w64}
 use mir.ValLaws.{ofZ-fits}
 use borrow.Author.Tests.{ltb-true, ltb-false, leb-true, eqb-true, eqb-false, lt-ltb, le-ltb, eq-eqb}
 use Rattle.classes.specs.Choice.{pick, and}
-use Rattle.wire.specs.Wire.{be64, beBytes}
+use Rattle.wire.specs.Wire.{Bytes, be64, beBytes}
 use Rattle.wire.specs.Frame.{number-back, number-before, number-behind}
+use Rattle.sheetform.specs.Form.{valuesAt, checkOf}
+use Rattle.sheetform.specs.declared.SheetCheck.the-variants.{Good}
+use Rattle.sheetlaws.specs.Sheet.{place}
 use Rattle.history.specs.Events.{limit, Value, holds, fails, summed, step, final, failsWith, anyOf}
 use Rattle.history.specs.Ranges.{InRange}
 use Rattle.history.specs.Sheet.{Slot, Values, Group, absolute, increment, check, Entry, each, giving, below, arcSlots}
-use Rattle.slots.specs.Slots.{numeral, wordOf, slotNumber, slotAt}
+use Rattle.slots.specs.Slots.{numeral, wordOf, slotNumber, slotAt, valuesOf, sheetAt}
 use Rattle.slots.specs.Numbers.{slot-at, slot-below, value-fits}
-use Rattle.slots.specs.Spelled.{start}
+use Rattle.slots.specs.Spelled.{start, room-all, word-get}
+use Rattle.slots.specs.Shapes.{values-in-range}
 use Rattle.amounts.specs.Amounts.{empty, lesser, given, refusal, changed, arcRefusal, valueWritten, arcWritten}
 use Rattle.amounts.specs.Laws.{firstOf, lesser-first, heldRefusal, held-first, isAdd, word-is-empty, given-none, refusal-is, changed-is}
 use Rattle.applying.specs.Judged.{any-below, supply}
@@ -330,3 +334,31 @@ module _ {Word : Type 0} {e : Entry Word} {rows : List (List ℕ)} {add : Bool} 
   scratch-written =
       let w = slots-written 18 (omega arith) in
       record { size = w .size; words = λ k a. w .words k a ∙ rw (lt-ltb k 18 a); fine = after-range }
+
+-- 4. At first: the bytes of the starting sheet
+
+-- a number within a part
+part-number : (b : List ℕ) (p n q : ℕ) → q + 8 ≤ n → be64 (take n (drop p b)) q ≡ be64 b (p + q)
+unfolding be64
+part-number b p n q l =
+    let f : (k : ℕ) → k < 8 → getD (take n (drop p b)) (q + k) 0 ≡ getD b (p + q + k) 0
+    = λ k g. let z : p + (q + k) ≡ p + q + k = omega arith in
+    getD-take n (drop p b) (q + k) 0 (omega arith) ∙ getD-drop p b (q + k) 0 ∙ ap (λ i. getD b i 0) z in
+    rw (rw (add-zero, add-zero) at (f 0 (omega arith)), f 1 (omega arith), f 2 (omega arith), f 3 (omega arith))
+    (rw (f 4 (omega arith), f 5 (omega arith), f 6 (omega arith), f 7 (omega arith)))
+
+module _ (b : List ℕ) (bytes : Bytes b) (n m f : ℕ) (good : checkOf b ≡ Good n m f) where
+  -- the 144 bytes of arc j hold its values
+  pub scratch-start : (j : ℕ) → j < m → Holds18 (take 144 (drop (valuesAt b (place b j f)) b)) j (valuesOf (sheetAt b n m f))
+  scratch-start j l =
+      let p = valuesAt b (place b j f) in
+      let v = valuesOf (sheetAt b n m f) in
+      let r = room-all b bytes n m f good j l in
+      let fine = values-in-range b bytes n m f good in
+      record {
+        size = length-take-le 144 (drop p b) (rw (length-drop p b) (omega arith));
+        words =
+            λ i g. part-number b p 144 (8 * i) (omega arith)
+            ∙ (rw (start b bytes n m f good) at (word-get b bytes n m f good v fine j i l g));
+        fine = fine;
+      }
