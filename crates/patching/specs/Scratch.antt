@@ -10,18 +10,18 @@ use native.Mathlib.Omega.{arith}
 use native.Mathlib.Nat.{add-zero, zero-add}
 use lib.Dec.{eqb, leb, ltb}
 use lib.IntN.{natAbs, _+ℤ_}
-use lib.ListN.{length, getD, take, drop, length-drop}
-use lib.Seq.{paste, length-paste, length-take-le, getD-take, getD-drop}
+use lib.ListN.{length, getD, take, drop, set, length-set, length-drop}
+use lib.Seq.{paste, length-paste, length-take-le, getD-take, getD-drop, getD-set-same, getD-set-other}
 use mir.Syntax.{w64}
 use mir.ValLaws.{ofZ-fits}
 use borrow.Author.Tests.{ltb-true, ltb-false, leb-true, eqb-true, eqb-false, lt-ltb, le-ltb, eq-eqb}
-use Rattle.classes.specs.Choice.{pick, and}
+use Rattle.classes.specs.Choice.{pick, and, or}
 use Rattle.wire.specs.Wire.{Bytes, be64, beBytes}
 use Rattle.wire.specs.Frame.{number-back, number-before, number-behind}
 use Rattle.sheetform.specs.Form.{valuesAt, checkOf}
 use Rattle.sheetform.specs.declared.SheetCheck.the-variants.{Good}
 use Rattle.sheetlaws.specs.Sheet.{place}
-use Rattle.history.specs.Events.{limit, Value, holds, fails, summed, step, final, failsWith, anyOf}
+use Rattle.history.specs.Events.{limit, Value, holds, fails, summed, step, final, failsWith, supplied, anyOf}
 use Rattle.history.specs.Ranges.{InRange}
 use Rattle.history.specs.Sheet.{Slot, Values, Group, absolute, increment, check, Entry, each, giving, below, arcSlots}
 use Rattle.slots.specs.Slots.{numeral, wordOf, slotNumber, slotAt, valuesOf, sheetAt}
@@ -344,7 +344,7 @@ part-number b p n q l =
     let f : (k : ℕ) → k < 8 → getD (take n (drop p b)) (q + k) 0 ≡ getD b (p + q + k) 0
     = λ k g. let z : p + (q + k) ≡ p + q + k = omega arith in
     getD-take n (drop p b) (q + k) 0 (omega arith) ∙ getD-drop p b (q + k) 0 ∙ ap (λ i. getD b i 0) z in
-    rw (rw (add-zero, add-zero) at (f 0 (omega arith)), f 1 (omega arith), f 2 (omega arith), f 3 (omega arith))
+    rw (rw (add-zero q, add-zero (p + q)) at (f 0 (omega arith)), f 1 (omega arith), f 2 (omega arith), f 3 (omega arith))
     (rw (f 4 (omega arith), f 5 (omega arith), f 6 (omega arith), f 7 (omega arith)))
 
 module _ (b : List ℕ) (bytes : Bytes b) (n m f : ℕ) (good : checkOf b ≡ Good n m f) where
@@ -362,3 +362,85 @@ module _ (b : List ℕ) (bytes : Bytes b) (n m f : ℕ) (good : checkOf b ≡ Go
             ∙ (rw (start b bytes n m f good) at (word-get b bytes n m f good v fine j i l g));
         fine = fine;
       }
+
+-- 5. Touching
+
+-- the flags, with 1 for those of the first n slots to which a number is given
+unfoldable pub touchedFlags : List ℕ → List (List ℕ) → ℕ → List ℕ
+touchedFlags flags rows zero = flags
+touchedFlags flags rows (suc n) = pick (eqb (given rows n) empty) (touchedFlags flags rows n) (set (touchedFlags flags rows n) n 1)
+
+-- as many
+pub touched-length : (flags : List ℕ) (rows : List (List ℕ)) (n : ℕ) → length (touchedFlags flags rows n) ≡ length flags
+unfolding touchedFlags
+touched-length flags rows zero = refl
+touched-length flags rows (suc n) = by (eqb (given rows n) empty) ∙ touched-length flags rows n
+  where
+    by : (y : Bool) → length (pick y (touchedFlags flags rows n) (set (touchedFlags flags rows n) n 1)) ≡ length (touchedFlags flags rows n)
+    by true = refl
+    by false = length-set (touchedFlags flags rows n) n 1
+
+-- one by one
+touched-at : (flags : List ℕ) (rows : List (List ℕ)) (n k : ℕ) → k < length flags
+    → getD (touchedFlags flags rows n) k 0 ≡ pick (and (ltb k n) (not (eqb (given rows k) empty))) 1 (getD flags k 0)
+unfolding touchedFlags
+touched-at flags rows zero k l = rw (le-ltb k 0 (omega arith))
+touched-at flags rows (suc n) k l = by (eqb k n) refl (eqb (given rows n) empty) refl (touched-at flags rows n k l)
+  where
+    o : List ℕ
+    o = touchedFlags flags rows n
+
+    by : (y : Bool) → eqb k n ≡ y → (z : Bool) → eqb (given rows n) empty ≡ z
+        → getD o k 0 ≡ pick (and (ltb k n) (not (eqb (given rows k) empty))) 1 (getD flags k 0)
+        → getD (pick z o (set o n 1)) k 0 ≡ pick (and (ltb k (suc n)) (not (eqb (given rows k) empty))) 1 (getD flags k 0)
+    by true p true q was =
+        let a = eqb-true k n p in
+        was ∙ rw (a, q, le-ltb n n (omega arith), lt-ltb n (suc n) (omega arith))
+    by true p false q was =
+        let a = eqb-true k n p in
+        let s = touched-length flags rows n in
+        rw (a, q, lt-ltb n (suc n) (omega arith)) (getD-set-same o n 1 0 (omega arith))
+    by false p true q was = rw (one-more k n (eqb-false k n p)) was
+    by false p false q was = rw (one-more k n (eqb-false k n p)) (getD-set-other o n k 1 0 (eqb-false k n p) ∙ was)
+
+-- a number is supplied where its word is not empty
+supplied-is : (g : Group) (v : Value) → InRange v → supplied (giving g v) ≡ not (eqb (wordOf v) empty)
+unfolding giving supplied
+supplied-is g none r = rw (word-is-empty none r .1 refl)
+supplied-is g (some z) r = by (eqb (wordOf (some z)) empty) refl
+  where
+    there : (k : Group) → supplied (giving k (some z)) ≡ true
+    there absolute = refl
+    there increment = refl
+    there check = refl
+
+    by : (y : Bool) → eqb (wordOf (some z)) empty ≡ y → supplied (giving g (some z)) ≡ not y
+    by false p = there g
+    by true p = let q = word-is-empty (some z) r .0 p in let n : _≡_ {A = ℕ} 0 1 = cc in absurd (omega arith)
+
+-- an entry that means the arc touches the slots to which it gives a number
+pub touch-flags : {Word : Type 0} {e : Entry Word} {rows : List (List ℕ)} {add : Bool} → Expanded e rows add
+    → {flags : List ℕ} {j : ℕ} {touched : Slot → Bool} → Flags flags j touched
+    → Flags (touchedFlags flags rows 18) j (λ t. or (touched t) (and (eqb (t .arc) j) (supplied (supply e t))))
+unfolding slotAt supply
+touch-flags {e = e} {rows = rows} x {flags = flags} {j = j} {touched = touched} g =
+    record {
+      count = touched-length flags rows 18 ∙ g .count;
+      flag =
+          λ i l. let s = g .count in
+          let u = slotAt j i in
+          rw (
+            touched-at flags rows 18 i (omega arith),
+            lt-ltb i 18 l,
+            eq-eqb j j refl,
+            x .words i l,
+            supplied-is (e .group) (number e u) (x .times u),
+          )
+          (by (eqb (wordOf (number e u)) empty) (getD flags i 0) (touched u) (g .flag i l));
+    }
+  where
+    by : (y : Bool) (a : ℕ) (z : Bool) → eqb a 0 ≡ not z → eqb (pick (not y) 1 a) 0 ≡ not (or z (not y))
+    by true a true p = p
+    by true a false p = p
+    by false a true p = refl
+    by false a false p = refl
