@@ -24,9 +24,9 @@ use Rattle.sheetlaws.specs.Sheet.{place}
 use Rattle.history.specs.Events.{limit, Value, holds, fails, summed, step, final, failsWith, supplied, anyOf}
 use Rattle.history.specs.Ranges.{InRange}
 use Rattle.history.specs.Sheet.{Slot, Values, Group, absolute, increment, check, Entry, each, giving, below, arcSlots}
-use Rattle.slots.specs.Slots.{numeral, wordOf, slotNumber, slotAt, valuesOf, sheetAt}
-use Rattle.slots.specs.Numbers.{slot-at, slot-below, value-fits}
-use Rattle.slots.specs.Spelled.{start, room-all, word-get}
+use Rattle.slots.specs.Slots.{numeral, wordOf, slotNumber, slotAt, sameSlot, put, valuesOf, spelled, sheetAt}
+use Rattle.slots.specs.Numbers.{slot-number, slot-at, slot-below, value-fits}
+use Rattle.slots.specs.Spelled.{start, room-all, spelled-same, word-set, word-get}
 use Rattle.slots.specs.Shapes.{values-in-range}
 use Rattle.amounts.specs.Amounts.{empty, lesser, given, refusal, changed, arcRefusal, valueWritten, arcWritten}
 use Rattle.amounts.specs.Laws.{firstOf, lesser-first, heldRefusal, held-first, isAdd, word-is-empty, given-none, refusal-is, changed-is}
@@ -444,3 +444,95 @@ touch-flags {e = e} {rows = rows} x {flags = flags} {j = j} {touched = touched} 
     by true a false p = p
     by false a true p = refl
     by false a false p = refl
+
+-- 6. Writing back
+
+-- the sheet, with what the scratch holds in those of the first n slots whose flag is not 0
+unfoldable pub backWritten : List ℕ → ℕ → List ℕ → List ℕ → ℕ → List ℕ
+backWritten cur at st flags zero = cur
+backWritten cur at st flags (suc n) =
+    pick (eqb (getD flags n 0) 0) (backWritten cur at st flags n)
+    (paste (backWritten cur at st flags n) (at + 8 * n) (beBytes (be64 st (8 * n))) 8)
+
+module _ (j : ℕ) (touched : Slot → Bool) (now current : Values) where
+  -- the values, with those of the first slots of the arc that are touched
+  unfoldable mixed : ℕ → Values
+  mixed i t = pick (and (and (eqb (t .arc) j) (ltb (slotNumber t) i)) (touched t)) (now t) (current t)
+
+  -- none
+  mixed-none : (t : Slot) → mixed 0 t ≡ current t
+  unfolding mixed
+  mixed-none t = rw (le-ltb (slotNumber t) 0 (omega arith)) (by (eqb (t .arc) j))
+    where
+      by : (y : Bool) → pick (and (and y false) (touched t)) (now t) (current t) ≡ current t
+      by true = refl
+      by false = refl
+
+  -- all eighteen
+  mixed-all : (t : Slot) → mixed 18 t ≡ pick (and (eqb (t .arc) j) (touched t)) (now t) (current t)
+  unfolding mixed
+  mixed-all t = rw (lt-ltb (slotNumber t) 18 (slot-below t)) (by (eqb (t .arc) j))
+    where
+      by : (y : Bool) → pick (and (and y true) (touched t)) (now t) (current t) ≡ pick (and y (touched t)) (now t) (current t)
+      by true = refl
+      by false = refl
+
+  -- slot i is next: if it is touched, its value is put in; if not, nothing changes
+  mixed-next : (i : ℕ) → i < 18 → (t : Slot)
+      → pick (touched (slotAt j i)) (put (mixed i) (slotAt j i) (now (slotAt j i)) t) (mixed i t) ≡ mixed (suc i) t
+  unfolding mixed put sameSlot slotAt
+  mixed-next i l t = rw (slot-number j i l) (by (eqb (t .arc) j) refl (eqb (slotNumber t) i) refl (touched (slotAt j i)) refl)
+    where
+      by : (y : Bool) → eqb (t .arc) j ≡ y → (z : Bool) → eqb (slotNumber t) i ≡ z → (w : Bool) → touched (slotAt j i) ≡ w
+          → pick w (pick (and y z) (now (slotAt j i)) (pick (and (and y (ltb (slotNumber t) i)) (touched t)) (now t) (current t)))
+          (pick (and (and y (ltb (slotNumber t) i)) (touched t)) (now t) (current t))
+          ≡ pick (and (and y (ltb (slotNumber t) (suc i))) (touched t)) (now t) (current t)
+      by false p z q true c = refl
+      by false p z q false c = refl
+      by true p false q true c = rw (one-more (slotNumber t) i (eqb-false (slotNumber t) i q))
+      by true p false q false c = rw (one-more (slotNumber t) i (eqb-false (slotNumber t) i q))
+      by true p true q w c =
+          let k = eqb-true (slotNumber t) i q in
+          let s : slotAt j i ≡ t = ap (λ a. slotAt a i) (sym (eqb-true (t .arc) j p)) ∙ ap (slotAt (t .arc)) (sym k) ∙ slot-at t in
+          let d : touched t ≡ w = sym (ap touched s) ∙ c in
+          rw (s, d, k, le-ltb i i (omega arith), lt-ltb i (suc i) (omega arith))
+
+module _ (b : List ℕ) (bytes : Bytes b) (n m f : ℕ) (good : checkOf b ≡ Good n m f) where
+  module _ {st : List ℕ} {j : ℕ} {now : Values} (h : Holds18 st j now) {flags : List ℕ} {touched : Slot → Bool} (g : Flags flags j touched)
+      (l : j < m) (current : Values) where
+    -- one slot
+    slot-back : (i : ℕ) → i < 18
+        → pick (eqb (getD flags i 0) 0) (spelled (sheetAt b n m f) (mixed j touched now current i))
+        (paste (spelled (sheetAt b n m f) (mixed j touched now current i)) (valuesAt b (place b j f) + 8 * i) (beBytes (be64 st (8 * i))) 8)
+        ≡ spelled (sheetAt b n m f) (mixed j touched now current (suc i))
+    slot-back i k = rw (g .flag i k, h .words i k) (by (touched (slotAt j i)) refl)
+      where
+        v : Values
+        v = mixed j touched now current i
+
+        by : (y : Bool) → touched (slotAt j i) ≡ y
+            → pick (not y) (spelled (sheetAt b n m f) v)
+            (paste (spelled (sheetAt b n m f) v) (valuesAt b (place b j f) + 8 * i) (beBytes (wordOf (now (slotAt j i)))) 8)
+            ≡ spelled (sheetAt b n m f) (mixed j touched now current (suc i))
+        by true p =
+            word-set b bytes n m f good v j i (now (slotAt j i)) l k
+            ∙ spelled-same b bytes n m f good (put v (slotAt j i) (now (slotAt j i))) (mixed j touched now current (suc i))
+            (λ t a. rw p at (mixed-next j touched now current i k t))
+        by false p =
+            spelled-same b bytes n m f good v (mixed j touched now current (suc i)) (λ t a. rw p at (mixed-next j touched now current i k t))
+
+    -- and the first i
+    slots-back : (i : ℕ) → i ≤ 18
+        → backWritten (spelled (sheetAt b n m f) current) (valuesAt b (place b j f)) st flags i
+        ≡ spelled (sheetAt b n m f) (mixed j touched now current i)
+    unfolding backWritten
+    slots-back zero k = sym (spelled-same b bytes n m f good (mixed j touched now current 0) current (λ t a. mixed-none j touched now current t))
+    slots-back (suc i) k = rw (slots-back i (omega arith)) (slot-back i (omega arith))
+
+    -- the sheet, with what the touched slots of the arc have come to
+    pub back-written : (cur : List ℕ) → cur ≡ spelled (sheetAt b n m f) current
+        → backWritten cur (valuesAt b (place b j f)) st flags 18
+        ≡ spelled (sheetAt b n m f) (λ t. pick (and (eqb (t .arc) j) (touched t)) (now t) (current t))
+    back-written cur c =
+        rw c (slots-back 18 (omega arith)
+        ∙ spelled-same b bytes n m f good (mixed j touched now current 18) _ (λ t a. mixed-all j touched now current t))
