@@ -10,7 +10,9 @@ use native.Mathlib.Omega.{arith}
 use lib.Dec.{eqb}
 use lib.ListN.{length}
 use Rattle.classes.specs.Choice.{pick, and}
-use Rattle.history.specs.Events.{Value, step, final, failsWith, anyOf, Event, lenient}
+use Rattle.amounts.specs.Laws.{firstOf}
+use Rattle.history.specs.Events.{Value, Supply, nothing, Held, holds, step, next, final, failsWith, anyOf, Event, history, lenient}
+use Rattle.history.specs.EventLaws.{clash, none≢some, any-false, any-cong, any-none, step-fine}
 use Rattle.history.specs.Faults.{Fault, later}
 use Rattle.patching.specs.Group.{failsHere, numberHere, stepped, groupFault, groupLeft}
 
@@ -92,3 +94,55 @@ module _ {Slot Word : Type 0} (group : List Slot) (touched : Slot → Bool) wher
   unfolding groupFault lenient stepped numberHere failsHere
   fault-lenient now [] = refl
   fault-lenient now (e ∷ more) = rw (fault-lenient (stepped group touched now e) more)
+
+  -- 3. An event that gives the group nothing
+
+  -- nothing fails at it
+  pub quiet : (now : Slot → Value) (e : Event Slot Word) → ((t : Slot) → List·Memᴰ t group → e .gives t ≡ nothing)
+      → numberHere group touched now e ≡ 0
+  unfolding numberHere failsHere firstOf step failsWith
+  quiet now e f = rw (calm 15, calm 16)
+    where
+      none-here : (n : ℕ) (t : Slot) → List·Memᴰ t group → (b : Bool) → and b (failsWith n (step (now t) (e .gives t))) ≡ false
+      none-here n t m true = rw (f t m)
+      none-here n t m false = refl
+
+      calm : (n : ℕ) → failsHere group touched n now e ≡ false
+      calm n = any-none _ group (λ t m. none-here n t m (touched t))
+
+  -- and it changes nothing
+  pub quiet-stepped : (now : Slot → Value) (e : Event Slot Word) (t : Slot) → e .gives t ≡ nothing → stepped group touched now e t ≡ now t
+  unfolding stepped step final
+  quiet-stepped now e t p = go (touched t)
+    where
+      go : (b : Bool) → pick b (final (step (now t) (e .gives t))) (now t) ≡ now t
+      go true = rw p
+      go false = refl
+
+  -- 4. The values of the group's own slots are all that counts
+
+  same-number : (now other : Slot → Value) (e : Event Slot Word) → ((t : Slot) → List·Memᴰ t group → now t ≡ other t)
+      → numberHere group touched now e ≡ numberHere group touched other e
+  unfolding numberHere failsHere
+  same-number now other e f = rw (fails 15, fails 16)
+    where
+      fails : (n : ℕ) → failsHere group touched n now e ≡ failsHere group touched n other e
+      fails n = any-cong _ _ group (λ t m. ap (λ (v : Value). and (touched t) (failsWith n (step v (e .gives t)))) (f t m))
+
+  same-stepped : (now other : Slot → Value) (e : Event Slot Word) (t : Slot) → now t ≡ other t
+      → stepped group touched now e t ≡ stepped group touched other e t
+  unfolding stepped
+  same-stepped now other e t p = rw p
+
+  pub left-same : (now other : Slot → Value) (es : List (Event Slot Word)) (t : Slot) → now t ≡ other t
+      → groupLeft group touched now es t ≡ groupLeft group touched other es t
+  unfolding groupLeft
+  left-same now other [] t p = p
+  left-same now other (e ∷ more) t p = left-same (stepped group touched now e) (stepped group touched other e) more t (same-stepped now other e t p)
+
+  pub fault-same : (now other : Slot → Value) (es : List (Event Slot Word)) → ((t : Slot) → List·Memᴰ t group → now t ≡ other t)
+      → groupFault group touched now es ≡ groupFault group touched other es
+  unfolding groupFault
+  fault-same now other [] f = refl
+  fault-same now other (e ∷ more) f = rw (same-number now other e f, fault-same (stepped group touched now e) (stepped group touched other e) more
+      (λ t m. same-stepped now other e t (f t m)))
