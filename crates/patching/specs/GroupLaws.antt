@@ -8,6 +8,7 @@ use mathlib.Core.Option.{Option, none, some}
 use Prim.Native.Nat.{ℕ, zero, suc, _+_}
 use native.Mathlib.Omega.{arith}
 use lib.Dec.{eqb}
+use borrow.Author.Tests.{eqb-true}
 use lib.ListN.{length}
 use Rattle.classes.specs.Choice.{pick, and}
 use Rattle.amounts.specs.Laws.{firstOf}
@@ -40,6 +41,17 @@ later-or : (a b : Option Fault) → later (orFault a b) ≡ orFault (later a) (l
 unfolding orFault later
 later-or none b = refl
 later-or (some f) b = refl
+
+later-none : (o : Option Fault) → later o ≡ none → o ≡ none
+unfolding later
+later-none none e = refl
+later-none (some f) e = absurd (none≢some (sym e))
+
+first-none : (a b : Bool) → firstOf false a b ≡ 0 → (a ≡ false) × (b ≡ false)
+unfolding firstOf
+first-none true b e = absurd (omega arith)
+first-none false true e = absurd (omega arith)
+first-none false false e = (refl, refl)
 
 module _ {Slot Word : Type 0} (group : List Slot) (touched : Slot → Bool) where
   -- 1. A list of events, cut in two
@@ -146,3 +158,58 @@ module _ {Slot Word : Type 0} (group : List Slot) (touched : Slot → Bool) wher
   fault-same now other [] f = refl
   fault-same now other (e ∷ more) f = rw (same-number now other e f, fault-same (stepped group touched now e) (stepped group touched other e) more
       (λ t m. same-stepped now other e t (f t m)))
+
+  -- 5. Slots that are not touched
+
+  -- without a touched one there is no fault
+  pub group-none : (now : Slot → Value) (es : List (Event Slot Word)) → ((t : Slot) → List·Memᴰ t group → touched t ≡ false)
+      → groupFault group touched now es ≡ none
+  unfolding groupFault numberHere failsHere firstOf later
+  group-none now [] f = refl
+  group-none now (e ∷ more) f = rw (calm 15, calm 16, group-none (stepped group touched now e) more f)
+    where
+      calm : (n : ℕ) → failsHere group touched n now e ≡ false
+      calm n = any-none _ group (λ t m. rw (f t m))
+
+  -- and they stay
+  pub group-stays : (now : Slot → Value) (es : List (Event Slot Word)) (t : Slot) → touched t ≡ false → groupLeft group touched now es t ≡ now t
+  unfolding groupLeft stepped
+  group-stays now [] t p = refl
+  group-stays now (e ∷ more) t p = group-stays (stepped group touched now e) more t p ∙ rw p
+
+  -- 6. Without a fault, each touched slot comes to what its history comes to
+
+  passes : (now : Slot → Value) (e : Event Slot Word) (more : List (Event Slot Word)) → groupFault group touched now (e ∷ more) ≡ none
+      → (numberHere group touched now e ≡ 0) × (groupFault group touched (stepped group touched now e) more ≡ none)
+  unfolding groupFault
+  passes now e more p = go (eqb (numberHere group touched now e) 0) refl p
+    where
+      here : Fault
+      here = record { event = 0; number = numberHere group touched now e }
+
+      go : (b : Bool) → eqb (numberHere group touched now e) 0 ≡ b
+          → pick b (later (groupFault group touched (stepped group touched now e) more)) (some here) ≡ none
+          → (numberHere group touched now e ≡ 0) × (groupFault group touched (stepped group touched now e) more ≡ none)
+      go true q r = (eqb-true _ _ q, later-none _ r)
+      go false q r = absurd (none≢some (sym r))
+
+  -- an event that is let pass leads on
+  pub group-step : (now : Slot → Value) (e : Event Slot Word) (t : Slot) → List·Memᴰ t group → touched t ≡ true
+      → numberHere group touched now e ≡ 0 → step (now t) (e .gives t) ≡ holds (stepped group touched now e t)
+  unfolding numberHere failsHere stepped
+  group-step now e t m j p =
+      let (x, y) = first-none _ _ p in
+      rw j (step-fine (now t) (e .gives t) (rw j at (any-false _ group t x m)) (rw j at (any-false _ group t y m)))
+
+  pub group-history : (now : Slot → Value) (es : List (Event Slot Word)) (t : Slot) → List·Memᴰ t group → touched t ≡ true
+      → groupFault group touched now es ≡ none → history (holds (now t)) es t ≡ holds (groupLeft group touched now es t)
+  unfolding history groupLeft next
+  group-history now [] t m j p = refl
+  group-history now (e ∷ more) t m j p =
+      let (x, y) = passes now e more p in
+      rw (group-step now e t m j x) (group-history (stepped group touched now e) more t m j y)
+
+  pub group-holds : (now : Slot → Value) (es : List (Event Slot Word)) (t : Slot) → List·Memᴰ t group → touched t ≡ true
+      → groupFault group touched now es ≡ none → groupLeft group touched now es t ≡ final (history (holds (now t)) es t)
+  unfolding final
+  group-holds now es t m j p = rw (group-history now es t m j p)
