@@ -5,16 +5,18 @@ use mathlib.Core.Path.{_≡_, refl, sym, ap, _∙_}
 use mathlib.Core.Bool.{Bool, true, false}
 use mathlib.Core.List.{List, [], _∷_, _++_, List·Memᴰ, List·Memᴰ·head, List·Memᴰ·tail}
 use mathlib.Core.Option.{Option, none, some}
-use Prim.Native.Nat.{ℕ, zero, suc, _+_}
+use mathlib.Core.Logic.{_⊎_, inl, inr, ⊎-elim}
+use Prim.Native.Nat.{ℕ, zero, suc, _+_, _<_}
 use native.Mathlib.Omega.{arith}
-use lib.Dec.{eqb}
-use borrow.Author.Tests.{eqb-true}
+use lib.Dec.{ltb, eqb}
+use borrow.Author.Tests.{ltb-true, ltb-false, eqb-true, eq-eqb}
 use lib.ListN.{length}
-use Rattle.classes.specs.Choice.{pick, and}
+use Rattle.classes.specs.Choice.{pick, or, and}
 use Rattle.amounts.specs.Laws.{firstOf}
 use Rattle.history.specs.Events.{Value, Supply, nothing, Held, holds, step, next, final, failsWith, anyOf, Event, history, lenient}
 use Rattle.history.specs.EventLaws.{clash, none≢some, any-false, any-cong, any-none, step-fine}
 use Rattle.history.specs.Faults.{Fault, later}
+use Rattle.history.specs.Scan.{precedes, better}
 use Rattle.patching.specs.Group.{failsHere, numberHere, stepped, groupFault, groupLeft}
 
 -- a fault, with n events more before it
@@ -52,6 +54,91 @@ unfolding firstOf
 first-none true b e = absurd (omega arith)
 first-none false true e = absurd (omega arith)
 first-none false false e = (refl, refl)
+
+-- the lesser of two faults: its test is a strict order, and of three it matters not which two come first
+Before : Fault → Fault → Type 0
+Before g f = (g .event < f .event) ⊎ ((g .event ≡ f .event) × (g .number < f .number))
+
+before : (g f : Fault) → precedes g f ≡ true → Before g f
+unfolding Before
+before g f p = go (ltb (g .event) (f .event)) refl (eqb (g .event) (f .event)) refl p
+  where
+    go : (a : Bool) → ltb (g .event) (f .event) ≡ a → (b : Bool) → eqb (g .event) (f .event) ≡ b → or a (and b (ltb (g .number) (f .number))) ≡ true
+        → Before g f
+    go true x b y p = inl (ltb-true _ _ x)
+    go false x true y p = inr (eqb-true _ _ y, ltb-true _ _ p)
+    go false x false y p = clash p
+
+not-before : (g f : Fault) → precedes g f ≡ false → Before g f → ⊥
+unfolding Before
+not-before g f p (inl x) = go (ltb (g .event) (f .event)) refl p
+  where
+    go : (a : Bool) → ltb (g .event) (f .event) ≡ a → or a (and (eqb (g .event) (f .event)) (ltb (g .number) (f .number))) ≡ false → ⊥
+    go true y q = clash (sym q)
+    go false y q = let z = ltb-false (g .event) (f .event) y in omega arith
+not-before g f p (inr (x, y)) = go (ltb (g .event) (f .event)) (ltb (g .number) (f .number)) refl (rw (eq-eqb _ _ x) at p)
+  where
+    go : (a b : Bool) → ltb (g .number) (f .number) ≡ b → or a (and true b) ≡ false → ⊥
+    go true b z q = clash (sym q)
+    go false true z q = clash (sym q)
+    go false false z q = let w = ltb-false (g .number) (f .number) z in omega arith
+
+-- one that comes before comes before, or behind, any third
+before-or : (f g h : Fault) → Before h f → Before h g ⊎ Before g f
+unfolding Before
+before-or f g h (inl x) = go (ltb (h .event) (g .event)) refl
+  where
+    go : (a : Bool) → ltb (h .event) (g .event) ≡ a → Before h g ⊎ Before g f
+    go true p = inl (inl (ltb-true _ _ p))
+    go false p = let z = ltb-false (h .event) (g .event) p in inr (inl (omega arith))
+before-or f g h (inr (x, y)) = go (ltb (h .event) (g .event)) refl (ltb (g .event) (h .event)) refl (ltb (h .number) (g .number)) refl
+  where
+    go : (a : Bool) → ltb (h .event) (g .event) ≡ a → (b : Bool) → ltb (g .event) (h .event) ≡ b → (c : Bool) → ltb (h .number) (g .number) ≡ c
+        → Before h g ⊎ Before g f
+    go true p b q c r = inl (inl (ltb-true _ _ p))
+    go false p true q c r = let z = ltb-true (g .event) (h .event) q in inr (inl (omega arith))
+    go false p false q true r = let z = ltb-false (h .event) (g .event) p in let w = ltb-false (g .event) (h .event) q in
+        inl (inr (omega arith, ltb-true _ _ r))
+    go false p false q false r = let z = ltb-false (h .event) (g .event) p in let w = ltb-false (g .event) (h .event) q in
+        let u = ltb-false (h .number) (g .number) r in inr (inr (omega arith, omega arith))
+
+before-trans : (f g h : Fault) → Before g f → Before h g → Before h f
+unfolding Before
+before-trans f g h (inl x) (inl y) = inl (omega arith)
+before-trans f g h (inl x) (inr y) = inl (omega arith)
+before-trans f g h (inr x) (inl y) = inl (omega arith)
+before-trans f g h (inr x) (inr y) = inr (omega arith, omega arith)
+
+better-nothing : (a : Option Fault) → better a none ≡ a
+unfolding better
+better-nothing none = refl
+better-nothing (some f) = refl
+
+better-assoc : (a b c : Option Fault) → better (better a b) c ≡ better a (better b c)
+unfolding better
+better-assoc none b c = refl
+better-assoc (some f) none c = refl
+better-assoc (some f) (some g) none = go (precedes g f)
+  where
+    go : (p : Bool) → better (pick p (some g) (some f)) none ≡ pick p (some g) (some f)
+    go true = refl
+    go false = refl
+better-assoc (some f) (some g) (some h) = go (precedes g f) refl (precedes h g) refl
+  where
+    third : (r : Bool) → precedes h f ≡ r → precedes g f ≡ true → precedes h g ≡ true → some h ≡ pick r (some h) (some f)
+    third true r p q = refl
+    third false r p q = absurd (not-before h f r (before-trans f g h (before g f p) (before h g q)))
+
+    first : (r : Bool) → precedes h f ≡ r → precedes g f ≡ false → precedes h g ≡ false → pick r (some h) (some f) ≡ some f
+    first true r p q = absurd (⊎-elim (not-before h g q) (not-before g f p) (before-or f g h (before h f r)))
+    first false r p q = refl
+
+    go : (p : Bool) → precedes g f ≡ p → (q : Bool) → precedes h g ≡ q
+        → better (pick p (some g) (some f)) (some h) ≡ better (some f) (pick q (some h) (some g))
+    go true p true q = rw q (third (precedes h f) refl p q)
+    go true p false q = rw (p, q)
+    go false p true q = refl
+    go false p false q = rw p (first (precedes h f) refl p q)
 
 module _ {Slot Word : Type 0} (group : List Slot) (touched : Slot → Bool) where
   -- 1. A list of events, cut in two
