@@ -6,7 +6,7 @@ use mathlib.Core.Bool.{Bool, true, false}
 use mathlib.Core.List.{List, [], _∷_, _++_, List·Memᴰ, List·Memᴰ·head, List·Memᴰ·tail}
 use mathlib.Core.Option.{Option, none, some}
 use mathlib.Core.Logic.{_⊎_, inl, inr, ⊎-elim}
-use Prim.Native.Nat.{ℕ, zero, suc, _+_, _<_}
+use Prim.Native.Nat.{ℕ, zero, suc, _+_, _≤_, _<_}
 use native.Mathlib.Omega.{arith}
 use lib.Dec.{ltb, eqb}
 use borrow.Author.Tests.{ltb-true, ltb-false, eqb-true, eq-eqb}
@@ -109,12 +109,12 @@ before-trans f g h (inl x) (inr y) = inl (omega arith)
 before-trans f g h (inr x) (inl y) = inl (omega arith)
 before-trans f g h (inr x) (inr y) = inr (omega arith, omega arith)
 
-better-nothing : (a : Option Fault) → better a none ≡ a
+pub better-nothing : (a : Option Fault) → better a none ≡ a
 unfolding better
 better-nothing none = refl
 better-nothing (some f) = refl
 
-better-assoc : (a b c : Option Fault) → better (better a b) c ≡ better a (better b c)
+pub better-assoc : (a b c : Option Fault) → better (better a b) c ≡ better a (better b c)
 unfolding better
 better-assoc none b c = refl
 better-assoc (some f) none c = refl
@@ -139,6 +139,72 @@ better-assoc (some f) (some g) (some h) = go (precedes g f) refl (precedes h g) 
     go true p false q = rw (p, q)
     go false p true q = refl
     go false p false q = rw p (first (precedes h f) refl p q)
+
+-- both a number of events later
+later-better : (a b : Option Fault) → later (better a b) ≡ better (later a) (later b)
+unfolding better later Before
+later-better none b = refl
+later-better (some f) none = refl
+later-better (some f) (some g) = go (precedes g f) refl (precedes (next-of g) (next-of f)) refl
+  where
+    next-of : Fault → Fault
+    next-of x = record { event = suc (x .event); number = x .number }
+
+    up : Before g f → Before (next-of g) (next-of f)
+    up (inl x) = inl (omega arith)
+    up (inr (x, y)) = inr (omega arith, y)
+
+    down : Before (next-of g) (next-of f) → Before g f
+    down (inl x) = inl (omega arith)
+    down (inr (x, y)) = inr (omega arith, y)
+
+    go : (p : Bool) → precedes g f ≡ p → (q : Bool) → precedes (next-of g) (next-of f) ≡ q
+        → later (pick p (some g) (some f)) ≡ pick q (some (next-of g)) (some (next-of f))
+    go true p true q = refl
+    go true p false q = absurd (not-before _ _ q (up (before g f p)))
+    go false p true q = absurd (not-before g f p (down (before _ _ q)))
+    go false p false q = refl
+
+-- the first stays where the second is not before it, and else gives way
+better-first : (f g : Fault) → (Before g f → ⊥) → better (some f) (some g) ≡ some f
+unfolding better
+better-first f g n = go (precedes g f) refl
+  where
+    go : (p : Bool) → precedes g f ≡ p → pick p (some g) (some f) ≡ some f
+    go true p = absurd (n (before g f p))
+    go false p = refl
+
+better-second : (f g : Fault) → Before g f → better (some f) (some g) ≡ some g
+unfolding better
+better-second f g b = go (precedes g f) refl
+  where
+    go : (p : Bool) → precedes g f ≡ p → pick p (some g) (some f) ≡ some g
+    go true p = refl
+    go false p = absurd (not-before g f p b)
+
+-- a fault at the event at hand
+at-hand : ℕ → Fault
+at-hand n = record { event = 0; number = n }
+
+-- is before all later ones
+now-first : (n : ℕ) (o : Option Fault) → better (some (at-hand n)) (later o) ≡ some (at-hand n)
+unfolding later Before at-hand
+now-first n none = better-nothing (some (at-hand n))
+now-first n (some f) = better-first (at-hand n) (record { event = suc (f .event); number = f .number }) (⊎-elim (λ x. omega arith) (λ x. omega arith))
+
+now-second : (n : ℕ) (o : Option Fault) → better (later o) (some (at-hand n)) ≡ some (at-hand n)
+unfolding better later Before at-hand
+now-second n none = refl
+now-second n (some f) = better-second (record { event = suc (f .event); number = f .number }) (at-hand n) (inl (omega arith))
+
+-- and among those of one event the lower number wins
+now-lower : (n m : ℕ) → n ≤ m → better (some (at-hand n)) (some (at-hand m)) ≡ some (at-hand n)
+unfolding Before at-hand
+now-lower n m h = better-first (at-hand n) (at-hand m) (⊎-elim (λ x. omega arith) (λ x. omega arith))
+
+now-higher : (n m : ℕ) → m < n → better (some (at-hand n)) (some (at-hand m)) ≡ some (at-hand m)
+unfolding Before at-hand
+now-higher n m h = better-second (at-hand n) (at-hand m) (inr (refl, h))
 
 module _ {Slot Word : Type 0} (group : List Slot) (touched : Slot → Bool) where
   -- 1. A list of events, cut in two
