@@ -3,7 +3,7 @@
 -- Assumes nothing.
 use mathlib.Core.Path.{_≡_, refl, sym, ap, _∙_}
 use mathlib.Core.Bool.{Bool, true, false}
-use mathlib.Core.List.{List, [], _∷_, _++_, List·Memᴰ, List·Memᴰ·head, List·Memᴰ·tail}
+use mathlib.Core.List.{List, [], _∷_, _++_, List·Memᴰ, List·Memᴰ·head, List·Memᴰ·tail, List·Memᴰ·not-nil}
 use mathlib.Core.Option.{Option, none, some}
 use mathlib.Core.Logic.{_⊎_, inl, inr, ⊎-elim}
 use Prim.Native.Nat.{ℕ, zero, suc, _+_, _≤_, _<_}
@@ -13,10 +13,10 @@ use borrow.Author.Tests.{ltb-true, ltb-false, eqb-true, eq-eqb}
 use lib.ListN.{length}
 use Rattle.classes.specs.Choice.{pick, or, and}
 use Rattle.amounts.specs.Laws.{firstOf}
-use Rattle.history.specs.Events.{Value, Supply, nothing, Held, holds, step, next, final, failsWith, anyOf, Event, history, lenient}
+use Rattle.history.specs.Events.{Value, Supply, nothing, Held, holds, fails, step, next, final, failsWith, anyOf, Event, history, lenient}
 use Rattle.history.specs.EventLaws.{clash, none≢some, any-false, any-cong, any-none, step-fine}
-use Rattle.history.specs.Faults.{Fault, later}
-use Rattle.history.specs.Scan.{precedes, better}
+use Rattle.history.specs.Faults.{Fault, later, faultHere, firstFault}
+use Rattle.history.specs.Scan.{precedes, better, faultOf, scan}
 use Rattle.patching.specs.Group.{failsHere, numberHere, stepped, groupFault, groupLeft}
 
 -- a fault, with n events more before it
@@ -206,6 +206,42 @@ now-higher : (n m : ℕ) → m < n → better (some (at-hand n)) (some (at-hand 
 unfolding Before at-hand
 now-higher n m h = better-second (at-hand n) (at-hand m) (inr (refl, h))
 
+-- what an event with this number, or 0 for none, and the events behind it come to
+from-here : ℕ → Option Fault → Option Fault
+from-here n rest = pick (eqb n 0) (later rest) (some (at-hand n))
+
+-- a step holds, or fails with 15 or 16
+Known : Held → Type 0
+Known h = ((v : Value) × (h ≡ holds v)) ⊎ ((h ≡ fails 15) ⊎ (h ≡ fails 16))
+
+known : (v : Value) (x : Supply) → Known (step v x)
+unfolding Known failsWith
+known v x = go (step v x) refl
+  where
+    go : (h : Held) → step v x ≡ h → Known (step v x)
+    go (holds w) p = inl (w, p)
+    go (fails n) p = which (eqb 15 n) refl (eqb 16 n) refl
+      where
+        which : (a : Bool) → eqb 15 n ≡ a → (b : Bool) → eqb 16 n ≡ b → Known (step v x)
+        which true q b r = inr (inl (p ∙ ap fails (sym (eqb-true 15 n q))))
+        which false q true r = inr (inr (p ∙ ap fails (sym (eqb-true 16 n r))))
+        which false q false r = inl (final (step v x), step-fine v x (rw p q) (rw p r))
+
+-- one slot more at an event: F is what comes of the slot behind it, G of the others
+join : (h : Held) → Known h → (a b : Bool) (F G : Option Fault)
+    → from-here (firstOf false (or (failsWith 15 h) a) (or (failsWith 16 h) b)) (better F G)
+    ≡ better (faultHere h F) (from-here (firstOf false a b) G)
+unfolding Known from-here firstOf failsWith faultHere at-hand
+join h (inl (v, p)) true b F G = rw p (sym (now-second 15 F))
+join h (inl (v, p)) false true F G = rw p (sym (now-second 16 F))
+join h (inl (v, p)) false false F G = rw p (later-better F G)
+join h (inr (inl p)) true b F G = rw p (sym (now-lower 15 15 (omega arith)))
+join h (inr (inl p)) false true F G = rw p (sym (now-lower 15 16 (omega arith)))
+join h (inr (inl p)) false false F G = rw p (sym (now-first 15 G))
+join h (inr (inr p)) true b F G = rw p (sym (now-higher 16 15 (omega arith)))
+join h (inr (inr p)) false true F G = rw p (sym (now-lower 16 16 (omega arith)))
+join h (inr (inr p)) false false F G = rw p (sym (now-first 16 G))
+
 module _ {Slot Word : Type 0} (group : List Slot) (touched : Slot → Bool) where
   -- 1. A list of events, cut in two
 
@@ -366,3 +402,48 @@ module _ {Slot Word : Type 0} (group : List Slot) (touched : Slot → Bool) wher
       → groupFault group touched now es ≡ none → groupLeft group touched now es t ≡ final (history (holds (now t)) es t)
   unfolding final
   group-holds now es t m j p = rw (group-history now es t m j p)
+
+-- 7. The group, slot by slot
+module _ {Slot Word : Type 0} where
+  -- one slot more
+  pub group-more : (touched : Slot → Bool) (s : Slot) (more : List Slot) (now : Slot → Value) (es : List (Event Slot Word))
+      → groupFault (s ∷ more) touched now es ≡ better (faultOf touched now es s) (groupFault more touched now es)
+  unfolding groupFault numberHere failsHere anyOf stepped faultOf firstFault from-here at-hand better
+  group-more touched s more now [] = go (touched s)
+    where
+      go : (b : Bool) → none ≡ better (pick b none none) none
+      go true = refl
+      go false = refl
+  group-more touched s more now (e ∷ es) =
+      ap (from-here (numberHere (s ∷ more) touched now e)) (group-more touched s more (stepped (s ∷ more) touched now e) es ∙
+      ap (λ (o : Option Fault). better o G) (same (touched s))) ∙ go (touched s)
+    where
+      h : Held
+      h = step (now s) (e .gives s)
+
+      F : Option Fault
+      F = firstFault (final h) es s
+
+      G : Option Fault
+      G = groupFault more touched (stepped more touched now e) es
+
+      same : (b : Bool) → pick b (firstFault (pick b (final h) (now s)) es s) none ≡ pick b F none
+      same true = refl
+      same false = refl
+
+      go : (b : Bool)
+          → from-here (firstOf false (or (and b (failsWith 15 h)) (failsHere more touched 15 now e)) (or (and b (failsWith 16 h))
+          (failsHere more touched 16 now e))) (better (pick b F none) G)
+          ≡ better (pick b (faultHere h F) none) (from-here (numberHere more touched now e) G)
+      go true = join h (known (now s) (e .gives s)) (failsHere more touched 15 now e) (failsHere more touched 16 now e) F G
+      go false = refl
+
+  -- the least fault of its touched slots is what the scan finds
+  pub group-scan : (group : List Slot) (touched : Slot → Bool) (start : Slot → Value) (es : List (Event Slot Word)) (best : Option Fault)
+      → scan touched start es best group ≡ better best (groupFault group touched start es)
+  unfolding scan
+  group-scan [] touched start es best = sym (ap (better best) (group-none [] touched start es (λ t m. absurd (List·Memᴰ·not-nil m))) ∙ better-nothing best)
+  group-scan (s ∷ more) touched start es best =
+      group-scan more touched start es (better best (faultOf touched start es s))
+      ∙ better-assoc best (faultOf touched start es s) (groupFault more touched start es)
+      ∙ ap (better best) (sym (group-more touched s more start es))
