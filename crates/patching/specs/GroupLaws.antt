@@ -3,7 +3,7 @@
 -- Assumes nothing.
 use mathlib.Core.Path.{_≡_, refl, sym, ap, _∙_}
 use mathlib.Core.Bool.{Bool, true, false}
-use mathlib.Core.List.{List, [], _∷_, _++_, List·Memᴰ, List·Memᴰ·head, List·Memᴰ·tail, List·Memᴰ·not-nil}
+use mathlib.Core.List.{List, [], _∷_, _++_, append-nil, append-assoc, List·Memᴰ, List·Memᴰ·head, List·Memᴰ·tail, List·Memᴰ·not-nil, List·Memᴰ·cases-cons}
 use mathlib.Core.Option.{Option, none, some}
 use mathlib.Core.Logic.{_⊎_, inl, inr, ⊎-elim}
 use Prim.Native.Nat.{ℕ, zero, suc, _+_, _≤_, _<_}
@@ -17,7 +17,9 @@ use Rattle.history.specs.Events.{Value, Supply, nothing, Held, holds, fails, st
 use Rattle.history.specs.EventLaws.{clash, none≢some, any-false, any-cong, any-none, step-fine}
 use Rattle.history.specs.Faults.{Fault, later, faultHere, firstFault}
 use Rattle.history.specs.Scan.{precedes, better, faultOf, scan}
-use Rattle.patching.specs.Group.{failsHere, numberHere, stepped, groupFault, groupLeft}
+use Rattle.history.specs.Sheet.{Records, Slot, Values, each, below, arcSlots, slotsOf}
+use Rattle.history.specs.Ranges.{InRange, Fits, history-in-range}
+use Rattle.patching.specs.Group.{failsHere, numberHere, stepped, groupFault, groupLeft, leastFault}
 
 -- a fault, with n events more before it
 unfoldable pub shifted : ℕ → Option Fault → Option Fault
@@ -447,3 +449,59 @@ module _ {Slot Word : Type 0} where
       group-scan more touched start es (better best (faultOf touched start es s))
       ∙ better-assoc best (faultOf touched start es s) (groupFault more touched start es)
       ∙ ap (better best) (sym (group-more touched s more start es))
+
+-- 8. All arcs of a sheet, one group after the other
+
+each-append : {A B : Type 0} (f : A → List B) (xs ys : List A) → each f (xs ++ ys) ≡ each f xs ++ each f ys
+unfolding each
+each-append f [] ys = refl
+each-append f (x ∷ xs) ys = rw (each-append f xs ys) (sym (append-assoc (f x) (each f xs) (each f ys)))
+
+module _ {Slot Word : Type 0} (touched : Slot → Bool) (start : Slot → Value) (es : List (Event Slot Word)) where
+  scan-append : (best : Option Fault) (xs ys : List Slot) → scan touched start es best (xs ++ ys)
+      ≡ scan touched start es (scan touched start es best xs) ys
+  unfolding scan
+  scan-append best [] ys = refl
+  scan-append best (x ∷ xs) ys = scan-append (better best (faultOf touched start es x)) xs ys
+
+  -- the first n groups
+  pub groups-scan : (slots : ℕ → List Slot) (best : Option Fault) (n : ℕ) → scan touched start es best (each slots (below n))
+      ≡ leastFault (λ j. groupFault (slots j) touched start es) best n
+  unfolding scan each below leastFault
+  groups-scan slots best zero = refl
+  groups-scan slots best (suc n) =
+      ap (scan touched start es best) (each-append slots (below n) (n ∷ []) ∙ ap (λ (l : List Slot). each slots (below n) ++ l) (append-nil (slots n)))
+      ∙ scan-append best (each slots (below n)) (slots n)
+      ∙ group-scan (slots n) touched start es (scan touched start es best (each slots (below n)))
+      ∙ ap (λ (o : Option Fault). better o (groupFault (slots n) touched start es)) (groups-scan slots best n)
+
+-- all of them
+pub all-scan : {Word : Type 0} (records : Records) (touched : Slot → Bool) (start : Values) (es : List (Event Slot Word)) (best : Option Fault)
+    → scan touched start es best (slotsOf records)
+    ≡ leastFault (λ j. groupFault (arcSlots j) touched start es) best (length (records .arcs))
+unfolding slotsOf
+all-scan records touched start es best = groups-scan touched start es arcSlots best (length (records .arcs))
+
+-- 9. Values stay within 10^15 either way
+
+module _ {Slot Word : Type 0} (group : List Slot) (touched : Slot → Bool) where
+  -- of a slot that fails nothing is left
+  stepped-in-range : (now : Slot → Value) (e : Event Slot Word) (t : Slot) → Fits (e .gives t) → InRange (now t)
+      → InRange (stepped group touched now e t)
+  unfolding stepped final history next
+  stepped-in-range now e t f r = go (touched t) (step (now t) (e .gives t)) refl
+    where
+      fits : (d : Event Slot Word) → List·Memᴰ d (e ∷ []) → Fits (d .gives t)
+      fits d m = ⊎-elim (λ p. rw p f) (λ k. absurd (List·Memᴰ·not-nil k)) (List·Memᴰ·cases-cons m)
+
+      go : (b : Bool) (h : Held) → step (now t) (e .gives t) ≡ h → InRange (pick b (final h) (now t))
+      go true (holds v) p = history-in-range (e ∷ []) t (now t) v fits r p
+      go true (fails n) p = tt
+      go false h p = r
+
+  pub group-in-range : (now : Slot → Value) (es : List (Event Slot Word)) (t : Slot)
+      → ((e : Event Slot Word) → List·Memᴰ e es → Fits (e .gives t)) → InRange (now t) → InRange (groupLeft group touched now es t)
+  unfolding groupLeft
+  group-in-range now [] t f r = r
+  group-in-range now (e ∷ more) t f r = group-in-range (stepped group touched now e) more t (λ d m. f d (List·Memᴰ·tail m))
+      (stepped-in-range now e t (f e (List·Memᴰ·head refl)) r)
