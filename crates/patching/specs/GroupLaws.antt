@@ -3,14 +3,15 @@
 -- Assumes nothing.
 use mathlib.Core.Path.{_≡_, refl, sym, ap, _∙_}
 use mathlib.Core.Bool.{Bool, true, false}
-use mathlib.Core.List.{List, [], _∷_, _++_, append-nil, append-assoc, List·Memᴰ, List·Memᴰ·head, List·Memᴰ·tail, List·Memᴰ·not-nil, List·Memᴰ·cases-cons}
+use mathlib.Core.List.{List, [], _∷_, _++_, append-nil, append-assoc, List·Memᴰ, List·Memᴰ·head, List·Memᴰ·tail}
+use mathlib.Core.List.{List·Memᴰ·not-nil, List·Memᴰ·cases-cons}
 use mathlib.Core.Option.{Option, none, some}
 use mathlib.Core.Logic.{_⊎_, inl, inr, ⊎-elim}
 use Prim.Native.Nat.{ℕ, zero, suc, _+_, _≤_, _<_}
 use native.Mathlib.Omega.{arith}
 use lib.Dec.{ltb, eqb}
-use borrow.Author.Tests.{ltb-true, ltb-false, eqb-true, eq-eqb}
 use lib.ListN.{length}
+use borrow.Author.Tests.{ltb-true, ltb-false, eqb-true, eq-eqb}
 use Rattle.classes.specs.Choice.{pick, or, and}
 use Rattle.amounts.specs.Laws.{firstOf}
 use Rattle.history.specs.Events.{Value, Supply, nothing, Held, holds, fails, step, next, final, failsWith, anyOf, Event, history, lenient}
@@ -20,6 +21,8 @@ use Rattle.history.specs.Scan.{precedes, better, faultOf, scan}
 use Rattle.history.specs.Sheet.{Records, Slot, Values, each, below, arcSlots, slotsOf}
 use Rattle.history.specs.Ranges.{InRange, Fits, history-in-range}
 use Rattle.patching.specs.Group.{failsHere, numberHere, stepped, groupFault, groupLeft, leastFault}
+
+-- 1. Faults
 
 -- a fault, with n events more before it
 unfoldable pub shifted : ℕ → Option Fault → Option Fault
@@ -51,16 +54,18 @@ unfolding later
 later-none none e = refl
 later-none (some f) e = absurd (none≢some (sym e))
 
+-- no number: nothing fails
 first-none : (a b : Bool) → firstOf false a b ≡ 0 → (a ≡ false) × (b ≡ false)
 unfolding firstOf
 first-none true b e = absurd (omega arith)
 first-none false true e = absurd (omega arith)
 first-none false false e = (refl, refl)
 
--- the lesser of two faults: its test is a strict order, and of three it matters not which two come first
+-- g is at an earlier event, or at the same one with a lower number
 Before : Fault → Fault → Type 0
 Before g f = (g .event < f .event) ⊎ ((g .event ≡ f .event) × (g .number < f .number))
 
+-- this is what the test says
 before : (g f : Fault) → precedes g f ≡ true → Before g f
 unfolding Before
 before g f p = go (ltb (g .event) (f .event)) refl (eqb (g .event) (f .event)) refl p
@@ -104,6 +109,7 @@ before-or f g h (inr (x, y)) = go (ltb (h .event) (g .event)) refl (ltb (g .even
     go false p false q false r = let z = ltb-false (h .event) (g .event) p in let w = ltb-false (g .event) (h .event) q in
         let u = ltb-false (h .number) (g .number) r in inr (inr (omega arith, omega arith))
 
+-- and a third that is before the earlier is before both
 before-trans : (f g h : Fault) → Before g f → Before h g → Before h f
 unfolding Before
 before-trans f g h (inl x) (inl y) = inl (omega arith)
@@ -111,11 +117,13 @@ before-trans f g h (inl x) (inr y) = inl (omega arith)
 before-trans f g h (inr x) (inl y) = inl (omega arith)
 before-trans f g h (inr x) (inr y) = inr (omega arith, omega arith)
 
+-- no fault is worse than any
 pub better-nothing : (a : Option Fault) → better a none ≡ a
 unfolding better
 better-nothing none = refl
 better-nothing (some f) = refl
 
+-- of three it matters not which two are compared first
 pub better-assoc : (a b c : Option Fault) → better (better a b) c ≡ better a (better b c)
 unfolding better
 better-assoc none b c = refl
@@ -142,7 +150,7 @@ better-assoc (some f) (some g) (some h) = go (precedes g f) refl (precedes h g) 
     go false p true q = refl
     go false p false q = rw p (first (precedes h f) refl p q)
 
--- both a number of events later
+-- both one event later
 later-better : (a b : Option Fault) → later (better a b) ≡ better (later a) (later b)
 unfolding better later Before
 later-better none b = refl
@@ -245,7 +253,7 @@ join h (inr (inr p)) false true F G = rw p (sym (now-lower 16 16 (omega arith)))
 join h (inr (inr p)) false false F G = rw p (sym (now-first 16 G))
 
 module _ {Slot Word : Type 0} (group : List Slot) (touched : Slot → Bool) where
-  -- 1. A list of events, cut in two
+  -- 2. A list of events, cut in two
 
   -- the values behind both parts
   pub left-append : (now : Slot → Value) (xs ys : List (Event Slot Word))
@@ -276,6 +284,7 @@ module _ {Slot Word : Type 0} (group : List Slot) (touched : Slot → Bool) wher
       go true = rw (later-or first (shifted (length xs) rest), later-shifted (length xs) rest)
       go false = refl
 
+  -- the same by its two cases
   pub fault-append-none : (now : Slot → Value) (xs ys : List (Event Slot Word)) → groupFault group touched now xs ≡ none
       → groupFault group touched now (xs ++ ys) ≡ shifted (length xs) (groupFault group touched (groupLeft group touched now xs) ys)
   unfolding orFault
@@ -286,19 +295,21 @@ module _ {Slot Word : Type 0} (group : List Slot) (touched : Slot → Bool) wher
   unfolding orFault
   fault-append-some now xs ys f p = fault-append now xs ys ∙ rw p
 
-  -- 2. Only what the events give counts
+  -- 3. Only what the events give counts
 
+  -- the values
   pub left-lenient : (now : Slot → Value) (es : List (Event Slot Word)) → groupLeft group touched now (lenient es) ≡ groupLeft group touched now es
   unfolding groupLeft lenient stepped
   left-lenient now [] = refl
   left-lenient now (e ∷ more) = left-lenient (stepped group touched now e) more
 
+  -- and the fault
   pub fault-lenient : (now : Slot → Value) (es : List (Event Slot Word)) → groupFault group touched now (lenient es) ≡ groupFault group touched now es
   unfolding groupFault lenient stepped numberHere failsHere
   fault-lenient now [] = refl
   fault-lenient now (e ∷ more) = rw (fault-lenient (stepped group touched now e) more)
 
-  -- 3. An event that gives the group nothing
+  -- 4. An event that gives the group nothing
 
   -- nothing fails at it
   pub quiet : (now : Slot → Value) (e : Event Slot Word) → ((t : Slot) → List·Memᴰ t group → e .gives t ≡ nothing)
@@ -322,35 +333,52 @@ module _ {Slot Word : Type 0} (group : List Slot) (touched : Slot → Bool) wher
       go true = rw p
       go false = refl
 
-  -- 4. The values of the group's own slots are all that counts
+  -- 5. The values of the group's own slots are all that counts
 
   same-number : (now other : Slot → Value) (e : Event Slot Word) → ((t : Slot) → List·Memᴰ t group → now t ≡ other t)
       → numberHere group touched now e ≡ numberHere group touched other e
   unfolding numberHere failsHere
-  same-number now other e f = rw (fails 15, fails 16)
+  same-number now other e f = rw (alike 15, alike 16)
     where
-      fails : (n : ℕ) → failsHere group touched n now e ≡ failsHere group touched n other e
-      fails n = any-cong _ _ group (λ t m. ap (λ (v : Value). and (touched t) (failsWith n (step v (e .gives t)))) (f t m))
+      alike : (n : ℕ) → failsHere group touched n now e ≡ failsHere group touched n other e
+      alike n = any-cong _ _ group (λ t m. ap (λ (v : Value). and (touched t) (failsWith n (step v (e .gives t)))) (f t m))
 
   same-stepped : (now other : Slot → Value) (e : Event Slot Word) (t : Slot) → now t ≡ other t
       → stepped group touched now e t ≡ stepped group touched other e t
   unfolding stepped
   same-stepped now other e t p = rw p
 
+  -- what a slot comes to hangs on its own value alone
   pub left-same : (now other : Slot → Value) (es : List (Event Slot Word)) (t : Slot) → now t ≡ other t
       → groupLeft group touched now es t ≡ groupLeft group touched other es t
   unfolding groupLeft
   left-same now other [] t p = p
   left-same now other (e ∷ more) t p = left-same (stepped group touched now e) (stepped group touched other e) more t (same-stepped now other e t p)
 
+  -- and the fault on those of the group
   pub fault-same : (now other : Slot → Value) (es : List (Event Slot Word)) → ((t : Slot) → List·Memᴰ t group → now t ≡ other t)
       → groupFault group touched now es ≡ groupFault group touched other es
   unfolding groupFault
   fault-same now other [] f = refl
-  fault-same now other (e ∷ more) f = rw (same-number now other e f, fault-same (stepped group touched now e) (stepped group touched other e) more
-      (λ t m. same-stepped now other e t (f t m)))
+  fault-same now other (e ∷ more) f =
+      let ih = fault-same (stepped group touched now e) (stepped group touched other e) more (λ t m. same-stepped now other e t (f t m)) in
+      rw (same-number now other e f, ih)
 
-  -- 5. Slots that are not touched
+  -- so an event that gives the group nothing can be left out
+  pub quiet-fault : (now : Slot → Value) (e : Event Slot Word) (more : List (Event Slot Word))
+      → ((t : Slot) → List·Memᴰ t group → e .gives t ≡ nothing)
+      → groupFault group touched now (e ∷ more) ≡ later (groupFault group touched now more)
+  unfolding groupFault
+  quiet-fault now e more f =
+      let ih = fault-same (stepped group touched now e) now more (λ t m. quiet-stepped now e t (f t m)) in
+      rw (quiet now e f, ih)
+
+  pub quiet-left : (now : Slot → Value) (e : Event Slot Word) (more : List (Event Slot Word)) (t : Slot) → e .gives t ≡ nothing
+      → groupLeft group touched now (e ∷ more) t ≡ groupLeft group touched now more t
+  unfolding groupLeft
+  quiet-left now e more t p = left-same (stepped group touched now e) now more t (quiet-stepped now e t p)
+
+  -- 6. Slots that are not touched
 
   -- without a touched one there is no fault
   pub group-none : (now : Slot → Value) (es : List (Event Slot Word)) → ((t : Slot) → List·Memᴰ t group → touched t ≡ false)
@@ -368,12 +396,13 @@ module _ {Slot Word : Type 0} (group : List Slot) (touched : Slot → Bool) wher
   group-stays now [] t p = refl
   group-stays now (e ∷ more) t p = group-stays (stepped group touched now e) more t p ∙ rw p
 
-  -- 6. Without a fault, each touched slot comes to what its history comes to
+  -- 7. Without a fault, each touched slot comes to what its history comes to
 
-  passes : (now : Slot → Value) (e : Event Slot Word) (more : List (Event Slot Word)) → groupFault group touched now (e ∷ more) ≡ none
+  -- without a fault, the first event is let pass, and there is none behind it
+  pub group-passes : (now : Slot → Value) (e : Event Slot Word) (more : List (Event Slot Word)) → groupFault group touched now (e ∷ more) ≡ none
       → (numberHere group touched now e ≡ 0) × (groupFault group touched (stepped group touched now e) more ≡ none)
   unfolding groupFault
-  passes now e more p = go (eqb (numberHere group touched now e) 0) refl p
+  group-passes now e more p = go (eqb (numberHere group touched now e) 0) refl p
     where
       here : Fault
       here = record { event = 0; number = numberHere group touched now e }
@@ -392,20 +421,23 @@ module _ {Slot Word : Type 0} (group : List Slot) (touched : Slot → Bool) wher
       let (x, y) = first-none _ _ p in
       rw j (step-fine (now t) (e .gives t) (rw j at (any-false _ group t x m)) (rw j at (any-false _ group t y m)))
 
+  -- the history holds, and holds what is left
   pub group-history : (now : Slot → Value) (es : List (Event Slot Word)) (t : Slot) → List·Memᴰ t group → touched t ≡ true
       → groupFault group touched now es ≡ none → history (holds (now t)) es t ≡ holds (groupLeft group touched now es t)
   unfolding history groupLeft next
   group-history now [] t m j p = refl
   group-history now (e ∷ more) t m j p =
-      let (x, y) = passes now e more p in
+      let (x, y) = group-passes now e more p in
       rw (group-step now e t m j x) (group-history (stepped group touched now e) more t m j y)
 
+  -- as patching writes it
   pub group-holds : (now : Slot → Value) (es : List (Event Slot Word)) (t : Slot) → List·Memᴰ t group → touched t ≡ true
       → groupFault group touched now es ≡ none → groupLeft group touched now es t ≡ final (history (holds (now t)) es t)
   unfolding final
   group-holds now es t m j p = rw (group-history now es t m j p)
 
--- 7. The group, slot by slot
+-- 8. The group, slot by slot
+
 module _ {Slot Word : Type 0} where
   -- one slot more
   pub group-more : (touched : Slot → Bool) (s : Slot) (more : List Slot) (now : Slot → Value) (es : List (Event Slot Word))
@@ -444,13 +476,14 @@ module _ {Slot Word : Type 0} where
   pub group-scan : (group : List Slot) (touched : Slot → Bool) (start : Slot → Value) (es : List (Event Slot Word)) (best : Option Fault)
       → scan touched start es best group ≡ better best (groupFault group touched start es)
   unfolding scan
-  group-scan [] touched start es best = sym (ap (better best) (group-none [] touched start es (λ t m. absurd (List·Memᴰ·not-nil m))) ∙ better-nothing best)
+  group-scan [] touched start es best =
+      sym (ap (better best) (group-none [] touched start es (λ t m. absurd (List·Memᴰ·not-nil m))) ∙ better-nothing best)
   group-scan (s ∷ more) touched start es best =
       group-scan more touched start es (better best (faultOf touched start es s))
       ∙ better-assoc best (faultOf touched start es s) (groupFault more touched start es)
       ∙ ap (better best) (sym (group-more touched s more start es))
 
--- 8. All arcs of a sheet, one group after the other
+-- 9. All arcs of a sheet, one group after the other
 
 each-append : {A B : Type 0} (f : A → List B) (xs ys : List A) → each f (xs ++ ys) ≡ each f xs ++ each f ys
 unfolding each
@@ -475,14 +508,14 @@ module _ {Slot Word : Type 0} (touched : Slot → Bool) (start : Slot → Value)
       ∙ group-scan (slots n) touched start es (scan touched start es best (each slots (below n)))
       ∙ ap (λ (o : Option Fault). better o (groupFault (slots n) touched start es)) (groups-scan slots best n)
 
--- all of them
+-- all of them: what patching keeps when it goes through the slots is what it keeps when it goes through the arcs
 pub all-scan : {Word : Type 0} (records : Records) (touched : Slot → Bool) (start : Values) (es : List (Event Slot Word)) (best : Option Fault)
     → scan touched start es best (slotsOf records)
     ≡ leastFault (λ j. groupFault (arcSlots j) touched start es) best (length (records .arcs))
 unfolding slotsOf
 all-scan records touched start es best = groups-scan touched start es arcSlots best (length (records .arcs))
 
--- 9. Values stay within 10^15 either way
+-- 10. Values stay within 10^15 either way
 
 module _ {Slot Word : Type 0} (group : List Slot) (touched : Slot → Bool) where
   -- of a slot that fails nothing is left
@@ -499,6 +532,7 @@ module _ {Slot Word : Type 0} (group : List Slot) (touched : Slot → Bool) wher
       go true (fails n) p = tt
       go false h p = r
 
+  -- if the times of the file are in range, as reading ensures, so is what is left
   pub group-in-range : (now : Slot → Value) (es : List (Event Slot Word)) (t : Slot)
       → ((e : Event Slot Word) → List·Memᴰ e es → Fits (e .gives t)) → InRange (now t) → InRange (groupLeft group touched now es t)
   unfolding groupLeft
