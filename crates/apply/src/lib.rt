@@ -155,7 +155,7 @@ fn arc_of(
 }
 
 // What an entry meets in the instance at a place: the least of 14, 15 and 16, or 0.
-fn refusal_in(
+pub fn refusal_in(
     start: &[u8],
     text: &[u8],
     plan: Plan,
@@ -260,7 +260,7 @@ fn is_of(start: &[u8], instance: usize, celltype: &[u8]) -> bool
 }
 
 // What an entry meets in the instances of a type.
-fn refusal_every(
+pub fn refusal_every(
     start: &[u8],
     text: &[u8],
     plan: Plan,

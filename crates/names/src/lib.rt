@@ -384,7 +384,7 @@ fn cmp_front_turned(x: &[u8], name: &[u8], slash: bool) -> u8
 }
 
 // The same; a name whose divider is `.` is its own canonical form.
-fn cmp_front_written(x: &[u8], name: &[u8], slash: bool) -> u8
+pub fn cmp_front_written(x: &[u8], name: &[u8], slash: bool) -> u8
     ensures { λ r. ⌜ r ≡ front (now (x .entry)) (canon slash (now (name .entry))) ⌝ }
 {
     if slash {

@@ -194,7 +194,7 @@ fn second_vs(sheet: &[u8], place: usize, kind: u8, path: &[u8], name: &[u8], sla
 }
 
 // The key of the arc at a place against the wanted one.
-fn key_vs(
+pub fn key_vs(
     sheet: &[u8],
     place: usize,
     kind: u8,
