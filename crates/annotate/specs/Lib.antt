@@ -1,0 +1,8 @@
+pub mod Meaning
+pub mod Whom
+pub mod Entries
+pub mod Cells
+pub mod CellList
+pub mod EntryLaws
+pub mod CellLaws
+pub mod TextLaws

@@ -1,0 +1,184 @@
+-- From the loops to the whole: what annotating answers and leaves, for every input.
+-- Assumes nothing.
+use Prim.Native.Nat.{ℕ, zero, suc, _+_, _*_, _/_, _<_, _≤_}
+use mathlib.Core.Path.{_≡_, refl, sym, ap, _∙_, subst}
+use mathlib.Core.Bool.{Bool, true, false}
+use mathlib.Core.List.{List, [], _∷_, _++_, append-assoc, append-nil}
+use native.Mathlib.Omega.{arith}
+use native.Mathlib.Nat.{zero-add}
+use lib.Dec.{eqb}
+use lib.ListN.{length, getD, drop, length-append, List·getD-append}
+use lib.Seq.{getD-append-add, take-all}
+use borrow.Author.Tests.{eq-eqb, ne-eqb}
+use Rattle.classes.specs.Choice.{pick}
+use Rattle.wire.specs.Wire.{Bytes}
+use Rattle.grammar.specs.declared.Cell as read
+use Rattle.grammar.specs.Machine.{Res, fine, bad}
+use Rattle.grammar.specs.Meaning.{Item}
+use Rattle.grammar.specs.Reading.{At}
+use Rattle.grammar.specs.Outcome.{readFile}
+use Rattle.tables.specs.Layout.{cellRow, cellRows, entryRow, entryRows, length-cells, length-entries, length-entry}
+use Rattle.sound.specs.Sound.{Each, SoundItem, SoundLog, total, read-sound}
+use Rattle.reader.specs.Files.{FileIs, cellsLeft, entriesLeft, slashOf}
+use Rattle.reader.specs.Files as file
+use Rattle.reader.specs.declared.Answer as reading
+use Rattle.reader.specs.declared.Answer.the-variants as answer
+use Rattle.reader.specs.declared.FileRead.{FileRead}
+use Rattle.sheetform.specs.Form.{checkOf}
+use Rattle.sheetform.specs.declared.SheetCheck.the-variants.{Good, Bad}
+use Rattle.sheetlaws.specs.Sheet.{Sheet, decode}
+use Rattle.history.specs.Events.{Answer, sheet, refused, folded}
+use Rattle.history.specs.Sheet.{Slot, fileEvents, slotsOf}
+use Rattle.history.specs.Sheet as history
+use Rattle.history.specs.SheetLaws.{annotate-by-entries}
+use Rattle.slots.specs.Slots.{recordsOf, valuesOf, spelled, sheetAt}
+use Rattle.slots.specs.Spelled.{start}
+use Rattle.slots.specs.Shapes.{values-in-range}
+use Rattle.applying.specs.Says.{cellsOf}
+use Rattle.applying.specs.Rows.{EntryIs, CellIs}
+use Rattle.annotate.specs.declared.Annotated.{Annotated}
+use Rattle.annotate.specs.declared.Annotated.the-variants.{Done, Refused}
+use Rattle.annotate.specs.Meaning.{said, Course, unfit, unread, judged, byText, bySheet, course, saysOf, answerOf, sheetOf, outOf, cellsOut, entriesOut, AnnotateIs}
+use Rattle.annotate.specs.Entries.{Kept, Went, noItem, EntriesAre}
+use Rattle.annotate.specs.Cells.{entriesBefore, noCell, CellsAre, CellsRun, TextRun}
+use Rattle.annotate.specs.CellList.{before, before-is}
+use Rattle.annotate.specs.EntryLaws.{here}
+
+-- 1. The whole text, applied to the starting sheet
+
+module _ (b : List ℕ) (bytes : Bytes b) (n m f : ℕ) (good : checkOf b ≡ Good n m f) (text : List ℕ) (slash : Bool) (cells : List ℕ) (count : ℕ)
+    (entries : List ℕ) where
+  begins : Kept b n m f b (valuesOf (sheetAt b n m f))
+  begins = (sym (start b bytes n m f good), values-in-range b bytes n m f good)
+
+  -- what the events come to is what annotating means
+  means : (cs : List read.Cell) (is : List Item) (a : Answer Slot ℕ)
+      → folded (slotsOf (recordsOf (sheetAt b n m f))) (valuesOf (sheetAt b n m f)) (fileEvents (recordsOf (sheetAt b n m f)) (cellsOf here text slash cs is) ++ []) ≡ a
+      → history.annotate (recordsOf (sheetAt b n m f)) (valuesOf (sheetAt b n m f)) (cellsOf here text slash cs is) ≡ a
+  means cs is a e =
+      sym (annotate-by-entries (recordsOf (sheetAt b n m f)) (valuesOf (sheetAt b n m f)) (cellsOf here text slash cs is)) ∙ rw append-nil at e
+
+  pub text-done : (out : List ℕ) → CellsRun b text slash n m f cells count entries b out Done → TextRun b text slash n m f cells count entries out Done
+  unfolding folded
+  text-done out run y cs is c e =
+      let w = run bytes good cs is (valuesOf (sheetAt b n m f)) c e begins in
+      let a = means cs is (sheet (w .0)) (w .2 []) in
+      (ap saysOf (sym a), w .1 .0 ∙ ap (sheetOf b (sheetAt b n m f)) (sym a))
+
+  pub text-stop : (out : List ℕ) (x q : ℕ) → CellsRun b text slash n m f cells count entries b out (Refused x q)
+      → TextRun b text slash n m f cells count entries b (Refused x q)
+  text-stop out x q run y cs is c e =
+      let w = run bytes good cs is (valuesOf (sheetAt b n m f)) c e begins in
+      let a = means cs is (refused x q) (w []) in
+      (ap saysOf (sym a), ap (sheetOf b (sheetAt b n m f)) (sym a))
+
+-- 2. The tables that reading leaves
+
+cells-front : (cs : List read.Cell) (rest : List ℕ) (k : ℕ) → k < length cs → CellIs (cellRows cs ++ rest) (7 * k) (getD cs k noCell)
+unfolding cellRows
+cells-front [] rest k h w l = absurd (omega arith)
+cells-front (c ∷ cs) rest zero h w l =
+    rw (append-assoc (cellRow c) (cellRows cs) rest, zero-add w) (List·getD-append (cellRow c) (cellRows cs ++ rest) 0 w l)
+cells-front (c ∷ cs) rest (suc k) h w l =
+    let e : 7 * suc k + w ≡ length (cellRow c) + (7 * k + w) = omega arith in
+    rw (append-assoc (cellRow c) (cellRows cs) rest, e) (getD-append-add (cellRow c) (cellRows cs ++ rest) (7 * k + w) 0
+    ∙ cells-front cs rest k (omega arith) w l)
+
+entries-front : (is : List Item) (rest : List ℕ) (k : ℕ) → k < length is → EntryIs (entryRows is ++ rest) (28 * k) (getD is k noItem)
+unfolding entryRows
+entries-front [] rest k h w l = absurd (omega arith)
+entries-front (i ∷ is) rest zero h w l =
+    rw (append-assoc (entryRow i) (entryRows is) rest, zero-add w) (List·getD-append (entryRow i) (entryRows is ++ rest) 0 w (rw (length-entry i) l))
+entries-front (i ∷ is) rest (suc k) h w l =
+    let z = length-entry i in
+    let e : 28 * suc k + w ≡ length (entryRow i) + (28 * k + w) = omega arith in
+    rw (append-assoc (entryRow i) (entryRows is) rest, e) (getD-append-add (entryRow i) (entryRows is ++ rest) (28 * k + w) 0
+    ∙ entries-front is rest k (omega arith) w l)
+
+-- what stands in them
+pub record Tables (st : At) (u t : List ℕ) (count : ℕ) : Type 0 where
+  pub cells : CellsAre u count (st .book .log .cells)
+  pub entries : EntriesAre t 0 (total (st .book .log .cells)) (st .book .log .items)
+  pub cellsFit : 7 * count ≤ length u
+  pub entriesFit : 28 * entriesBefore u count ≤ length t
+
+pub tables-left : (st : At) (u t : List ℕ) (cr ir : ℕ) (s : List ℕ) → readFile cr ir s ≡ fine st
+    → Tables st (cellsLeft (fine st) u) (entriesLeft (fine st) t) (length (st .book .log .cells))
+tables-left st u t cr ir s e =
+    let l = read-sound cr ir s st e in
+    let cs = st .book .log .cells in
+    let is = st .book .log .items in
+    let lc = length-cells cs in
+    let li = length-entries is in
+    let cells : CellsAre (cellsLeft (fine st) u) (length cs) cs = (refl, (λ k h. cells-front cs _ k h), l .cells) in
+    let n = length-append (cellRows cs) (drop (length (cellRows cs)) u) in
+    let m = length-append (entryRows is) (drop (length (entryRows is)) t) in
+    let b = before-is (cellsLeft (fine st) u) (length cs) cs cells (length cs) (omega arith) in
+    let w : before cs (length cs) ≡ total cs = ap total (take-all (length cs) cs (omega arith)) in
+    let v = l .entries in
+    record {
+      cells = cells;
+      entries = (sym v, (λ k h. rw (zero-add k) (entries-front is _ k (omega (arith, v, h)))), l .items);
+      cellsFit = omega (arith, n, lc);
+      entriesFit = omega (arith, m, li, b, w, v);
+    }
+
+tables-at : (st : At) (u u′ t t′ : List ℕ) (count cr ir : ℕ) (s : List ℕ) → readFile cr ir s ≡ fine st → count ≡ length (st .book .log .cells)
+    → u′ ≡ cellsLeft (fine st) u → t′ ≡ entriesLeft (fine st) t → Tables st u′ t′ count
+tables-at st u u′ t t′ count cr ir s e k c d = rw (c, d, k) (tables-left st u t cr ir s e)
+
+-- 3. For every input
+
+module _ (start′ text : List ℕ) (cr ir : ℕ) (u u′ t t′ out : List ℕ) where
+  -- 10
+  pub unfit-sheet : (k p : ℕ) → checkOf start′ ≡ Bad k p → AnnotateIs start′ (course start′ text cr ir (length out)) u u t t out out (Refused 10 0)
+  unfolding course decode answerOf outOf cellsOut entriesOut
+  unfit-sheet k p e = rw e (record { says = refl; cells = refl; entries = refl; sheet = refl })
+
+  -- 11
+  pub unfit-length : (n m f : ℕ) → checkOf start′ ≡ Good n m f → (length out ≡ length start′ → ⊥)
+      → AnnotateIs start′ (course start′ text cr ir (length out)) u u t t out out (Refused 11 0)
+  unfolding course decode answerOf outOf cellsOut entriesOut
+  unfit-length n m f e h = rw (e, ne-eqb (length out) (length start′) h) (record { says = refl; cells = refl; entries = refl; sheet = refl })
+
+  module _ (n m f : ℕ) (good : checkOf start′ ≡ Good n m f) (same : length out ≡ length start′) (r : FileRead)
+      (file-is : FileIs (readFile cr ir text) u u′ t t′ r) where
+    -- the course of a starting sheet and an output sheet that fit
+    fits : course start′ text cr ir (length out) ≡ byText text (sheetAt start′ n m f) (readFile cr ir text)
+    unfolding course decode
+    fits = rw (good, eq-eqb (length out) (length start′) same)
+
+    -- the text's own refusal
+    pub unread-text : (x q : ℕ) → r .answer ≡ answer.Refused x q
+        → AnnotateIs start′ (course start′ text cr ir (length out)) u u′ t t′ out out (Refused x q)
+    unfolding answerOf outOf cellsOut entriesOut
+    unread-text x q e = rw fits (go (readFile cr ir text) (sym e ∙ file-is .says) (file-is .cells) (file-is .entries))
+      where
+        go : (o : Res At) → answer.Refused x q ≡ file.answerOf o → u′ ≡ cellsLeft o u → t′ ≡ entriesLeft o t
+            → AnnotateIs start′ (byText text (sheetAt start′ n m f) o) u u′ t t′ out out (Refused x q)
+        go (fine st) e c d = let z : _≡_ {A = ℕ} 0 1 = cc in absurd (omega arith)
+        go (bad y p) e c d = record { says = cc; cells = c; entries = d; sheet = refl }
+
+    -- a text that was read
+    read-as : (o : Res At) (count all : ℕ) → readFile cr ir text ≡ o → answer.Read count all ≡ file.answerOf o
+        → (st : At) × (readFile cr ir text ≡ fine st) × (count ≡ length (st .book .log .cells))
+    read-as (fine st) count all e a = (st, e, cc)
+    read-as (bad y p) count all e a = let z : _≡_ {A = ℕ} 0 1 = cc in absurd (omega arith)
+
+    pub read-tables : (count all : ℕ) → r .answer ≡ answer.Read count all
+        → (st : At) × (readFile cr ir text ≡ fine st) × (u′ ≡ cellsLeft (fine st) u) × (t′ ≡ entriesLeft (fine st) t) × (r .slash ≡ st .book .slash)
+        × Tables st u′ t′ count
+    read-tables count all e =
+        let a = read-as (readFile cr ir text) count all refl (sym e ∙ file-is .says) in
+        let c : u′ ≡ cellsLeft (fine (a .0)) u = file-is .cells ∙ ap (λ (o : Res At). cellsLeft o u) (a .1) in
+        let d : t′ ≡ entriesLeft (fine (a .0)) t = file-is .entries ∙ ap (λ (o : Res At). entriesLeft o t) (a .1) in
+        (a .0, a .1, c, d, file-is .slash ∙ ap slashOf (a .1), tables-at (a .0) u u′ t t′ count cr ir text (a .1) (a .2) c d)
+
+    -- and its history
+    pub read-text : Bytes start′ → (count all : ℕ) → r .answer ≡ answer.Read count all → (a : Annotated) (out′ : List ℕ)
+        → TextRun start′ text (r .slash) n m f u′ count t′ out′ a → AnnotateIs start′ (course start′ text cr ir (length out)) u u′ t t′ out out′ a
+    unfolding answerOf outOf cellsOut entriesOut said
+    read-text bytes count all e a out′ run =
+        let l = read-tables count all e in
+        let w = (rw (l .4) at run) bytes (l .0 .book .log .cells) (l .0 .book .log .items) (l .5 .cells) (l .5 .entries) in
+        rw (fits, l .1) (record { says = w .0; cells = l .2; entries = l .3; sheet = w .1 })
