@@ -22,7 +22,7 @@ pub enum Annotated {
 }
 
 // Which instances a cell's entries apply to: the one at a place, every one of the cell's type, or none, and why.
-enum Whom {
+pub enum Whom {
     One(usize),
     Every,
     Nobody(u8),
@@ -36,7 +36,7 @@ const ENTRY_WORDS: usize = 28;
 const CELL_WORDS: usize = 7;
 
 // '12 no such instance', '13 type differs'.
-fn whom_of(start: &[u8], text: &[u8], plan: Plan, marks: &[u32; 4096], cell: Cell) -> Whom
+pub fn whom_of(start: &[u8], text: &[u8], plan: Plan, marks: &[u32; 4096], cell: Cell) -> Whom
     requires { ⌜ InstanceSearch (now start) (plan .instances) 12 (now marks) ⌝ }
     ensures { λ r. ⌜ (r ≡ whomOf (now (start .entry)) (now (text .entry)) (plan .slash) (plan .instances) cell) × InSheet (now (start .entry)) r ⌝ }
 {
