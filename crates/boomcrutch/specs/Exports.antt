@@ -1,6 +1,6 @@
 -- The answers of the static library: each answer's numbers, by the definitions that the other contracts use.
 -- Assumes nothing.
-use mathlib.Core.Path.{_≡_, _∙_}
+use mathlib.Core.Path.{_≡_, _∙_, ap}
 use mathlib.Core.Bool.{Bool}
 use mathlib.Core.List.{List}
 use Prim.Native.Nat.{ℕ, _≤_, _<_}
@@ -18,6 +18,11 @@ use Rattle.sheetform.specs.declared.SheetCheck.{SheetCheck}
 use Rattle.sheetform.specs.declared.SheetCheck.the-variants as sheet
 use Rattle.boomcrutch.specs.declared.ReadNumbers.{ReadNumbers}
 use Rattle.boomcrutch.specs.declared.SheetNumbers.{SheetNumbers}
+use Rattle.boomcrutch.specs.declared.ResultNumbers.{ResultNumbers}
+use Rattle.annotate.specs.declared.Annotated.{Annotated}
+use Rattle.annotate.specs.declared.Annotated.the-variants as annotated
+use Rattle.annotate.specs.Meaning.{Course, AnnotateIs, cellsOut, entriesOut, outOf}
+use Rattle.annotate.specs.Meaning as meaning
 
 -- 0 and the counts, the divider (1 for /) and the time scale; or the refusal's number and its place, and nothing else
 abbrev pub fileNumbers : Answer → Bool → ℕ → List ℕ → ReadNumbers
@@ -50,3 +55,16 @@ cell-by slash scale cr ir s g h = rw (le-ltb 1 slash g, le-ltb 17 scale h)
 abbrev pub sheetNumbers : SheetCheck → SheetNumbers
 sheetNumbers (sheet.Good n m f) = record { number = 0; place = 0; instances = n; arcs = m }
 sheetNumbers (sheet.Bad k p) = record { number = 10; place = 0; instances = 0; arcs = 0 }
+
+-- 0; or the refusal's number and its place, in the file
+abbrev pub resultOf : Annotated → ResultNumbers
+resultOf annotated.Done = record { number = 0; place = 0; incoming = 0 }
+resultOf (annotated.Refused n q) = record { number = n; place = q; incoming = 0 }
+
+abbrev pub annotatedNumbers : Course → ResultNumbers
+annotatedNumbers c = resultOf (meaning.answerOf c)
+
+-- what the annotator leaves is what the library leaves
+pub same-annotated : (start : List ℕ) (c : Course) (u u′ t t′ out out′ : List ℕ) (a : Annotated) → AnnotateIs start c u u′ t t′ out out′ a
+    → (resultOf a ≡ annotatedNumbers c) × (u′ ≡ cellsOut u c) × (t′ ≡ entriesOut t c) × (out′ ≡ outOf start out c)
+same-annotated start c u u′ t t′ out out′ a i = (ap resultOf (i .says), i .cells, i .entries, i .sheet)

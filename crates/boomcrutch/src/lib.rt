@@ -8,7 +8,10 @@ ghost use Rattle.tokens.specs.Stream.{stream, count};
 ghost use Rattle.grammar.specs.Outcome.{readFile};
 ghost use Rattle.reader.specs.Files.{cellsLeft, entriesLeft};
 ghost use Rattle.sheetform.specs.Form.{checkOf};
-ghost use Rattle.boomcrutch.specs.Exports.{fileNumbers, readNumbers, cellBy, sheetNumbers};
+ghost use Rattle.annotate.specs.Meaning.{course, cellsOut, entriesOut, outOf};
+ghost use Rattle.boomcrutch.specs.Exports.{annotatedNumbers, fileNumbers, readNumbers, cellBy, sheetNumbers};
+use annotate::Annotated;
+use annotate::annotate;
 use tokens::count_tokens;
 use reader::Answer;
 use reader::FileRead;
@@ -112,5 +115,38 @@ pub extern "C" fn boomcrutch_check_sheet(sheet: &[u8]) -> SheetNumbers
         SheetCheck::Good { instances, arcs, first_arc } => {
             SheetNumbers { number: 0, place: 0, instances: instances as u64, arcs: arcs as u64 }
         }
+    }
+}
+
+// The answer of annotating or patching: number 0, or a refusal's number and its place, which stands in the incoming text if `incoming` is 1.
+#[repr(C)]
+pub struct ResultNumbers {
+    pub number: u64,
+    pub place: u64,
+    pub incoming: u64,
+}
+
+// Annotates the starting sheet with a file.
+#[no_mangle]
+pub extern "C" fn boomcrutch_annotate(
+    start: &[u8],
+    text: &[u8],
+    cells: &mut [u64],
+    entries: &mut [u64],
+    out: &mut [u8],
+) -> ResultNumbers
+    ensures { λ r. ⌜ (r ≡ annotatedNumbers (course (now (start .entry)) (now (text .entry)) (length (now (cells .entry)) / 7)
+        (length (now (entries .entry)) / 28) (length (now (out .entry)))))
+        × (now (cells .exit) ≡ cellsOut (now (cells .entry)) (course (now (start .entry)) (now (text .entry)) (length (now (cells .entry)) / 7)
+        (length (now (entries .entry)) / 28) (length (now (out .entry)))))
+        × (now (entries .exit) ≡ entriesOut (now (entries .entry)) (course (now (start .entry)) (now (text .entry)) (length (now (cells .entry)) / 7)
+        (length (now (entries .entry)) / 28) (length (now (out .entry)))))
+        × (now (out .exit) ≡ outOf (now (start .entry)) (now (out .entry)) (course (now (start .entry)) (now (text .entry))
+        (length (now (cells .entry)) / 7) (length (now (entries .entry)) / 28) (length (now (out .entry))))) ⌝ }
+{
+    let answer = annotate(start, text, cells, entries, out);
+    match answer {
+        Annotated::Done => ResultNumbers { number: 0, place: 0, incoming: 0 },
+        Annotated::Refused { number, place } => ResultNumbers { number: number as u64, place: place as u64, incoming: 0 },
     }
 }
