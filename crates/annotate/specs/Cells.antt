@@ -2,7 +2,7 @@
 -- Assumes nothing.
 use Prim.Native.Nat.{ℕ, zero, suc, _+_, _-_, _*_, _<_, _≤_}
 use mathlib.Core.Path.{_≡_}
-use mathlib.Core.Bool.{Bool}
+use mathlib.Core.Bool.{Bool, true, false}
 use mathlib.Core.List.{List}
 use native.Mathlib.Omega.{arith}
 use native.Mathlib.Nat.{add-zero}
@@ -19,6 +19,7 @@ use Rattle.history.specs.Sheet as history
 use Rattle.applying.specs.Says.{cellOf, cellsOf}
 use Rattle.applying.specs.Rows.{CellIs}
 use Rattle.annotate.specs.declared.Annotated.{Annotated}
+use Rattle.annotate.specs.declared.Annotated.the-variants.{Done, Refused}
 use Rattle.annotate.specs.Entries.{Kept, Went, EntriesAre}
 use Rattle.annotate.specs.Meaning.{saysOf, sheetOf}
 
@@ -41,6 +42,10 @@ unfolding entriesBefore
 entries-within t k count h =
     let e : suc k + (count - suc k) ≡ count = omega arith in
     rw e at (entries-grow t (suc k) (count - suc k))
+
+unfoldable pub isRefusal : Annotated → Bool
+isRefusal Done = false
+isRefusal (Refused n q) = true
 
 -- no cell, for a place behind the last
 abbrev pub noCell : read.Cell

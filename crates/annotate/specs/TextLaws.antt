@@ -2,7 +2,7 @@
 -- Assumes nothing.
 use Prim.Native.Nat.{ℕ, zero, suc, _+_, _*_, _/_, _<_, _≤_}
 use mathlib.Core.Path.{_≡_, refl, sym, ap, _∙_, subst}
-use mathlib.Core.Bool.{Bool, true, false}
+use mathlib.Core.Bool.{Bool, true, false, true≢false}
 use mathlib.Core.List.{List, [], _∷_, _++_, append-assoc, append-nil}
 use native.Mathlib.Omega.{arith}
 use native.Mathlib.Nat.{zero-add}
@@ -40,7 +40,7 @@ use Rattle.annotate.specs.declared.Annotated.{Annotated}
 use Rattle.annotate.specs.declared.Annotated.the-variants.{Done, Refused}
 use Rattle.annotate.specs.Meaning.{said, Course, unfit, unread, judged, byText, bySheet, course, saysOf, answerOf, sheetOf, outOf, cellsOut, entriesOut, AnnotateIs}
 use Rattle.annotate.specs.Entries.{Kept, Went, noItem, EntriesAre}
-use Rattle.annotate.specs.Cells.{entriesBefore, noCell, CellsAre, CellsRun, TextRun}
+use Rattle.annotate.specs.Cells.{entriesBefore, isRefusal, noCell, CellsAre, CellsRun, TextRun}
 use Rattle.annotate.specs.CellList.{before, before-is}
 use Rattle.annotate.specs.EntryLaws.{here}
 
@@ -58,19 +58,32 @@ module _ (b : List ℕ) (bytes : Bytes b) (n m f : ℕ) (good : checkOf b ≡ Go
   means cs is a e =
       sym (annotate-by-entries (recordsOf (sheetAt b n m f)) (valuesOf (sheetAt b n m f)) (cellsOf here text slash cs is)) ∙ rw append-nil at e
 
-  pub text-done : (out : List ℕ) → CellsRun b text slash n m f cells count entries b out Done → TextRun b text slash n m f cells count entries out Done
+  done : (out : List ℕ) → CellsRun b text slash n m f cells count entries b out Done → TextRun b text slash n m f cells count entries out Done
   unfolding folded
-  text-done out run y cs is c e =
+  done out run y cs is c e =
       let w = run bytes good cs is (valuesOf (sheetAt b n m f)) c e begins in
       let a = means cs is (sheet (w .0)) (w .2 []) in
       (ap saysOf (sym a), w .1 .0 ∙ ap (sheetOf b (sheetAt b n m f)) (sym a))
 
-  pub text-stop : (out : List ℕ) (x q : ℕ) → CellsRun b text slash n m f cells count entries b out (Refused x q)
+  stop : (out : List ℕ) (x q : ℕ) → CellsRun b text slash n m f cells count entries b out (Refused x q)
       → TextRun b text slash n m f cells count entries b (Refused x q)
-  text-stop out x q run y cs is c e =
+  stop out x q run y cs is c e =
       let w = run bytes good cs is (valuesOf (sheetAt b n m f)) c e begins in
       let a = means cs is (refused x q) (w []) in
       (ap saysOf (sym a), ap (sheetOf b (sheetAt b n m f)) (sym a))
+
+  -- the sheet is as the cells left it, or the starting sheet again
+  pub text-done : (out : List ℕ) (a : Annotated) → isRefusal a ≡ false → CellsRun b text slash n m f cells count entries b out a
+      → TextRun b text slash n m f cells count entries out a
+  unfolding isRefusal
+  text-done out Done e run = done out run
+  text-done out (Refused x q) e run = absurd (true≢false e)
+
+  pub text-stop : (out : List ℕ) (a : Annotated) → isRefusal a ≡ true → CellsRun b text slash n m f cells count entries b out a
+      → TextRun b text slash n m f cells count entries b a
+  unfolding isRefusal
+  text-stop out Done e run = absurd (true≢false (sym e))
+  text-stop out (Refused x q) e run = stop out x q run
 
 -- 2. The tables that reading leaves
 

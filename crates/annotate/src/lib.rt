@@ -8,7 +8,7 @@ ghost use Rattle.sheet.specs.Find.{InstanceSearch};
 ghost use Rattle.applying.specs.Ready.{Ready};
 ghost use Rattle.annotate.specs.Whom.{whomOf, InSheet};
 ghost use Rattle.annotate.specs.Entries.{refusalFor, appliedFor, EntriesRun};
-ghost use Rattle.annotate.specs.Cells.{entriesBefore, CellRun, CellsRun, TextRun};
+ghost use Rattle.annotate.specs.Cells.{entriesBefore, isRefusal, CellRun, CellsRun, TextRun};
 ghost use Rattle.annotate.specs.Meaning.{course, AnnotateIs};
 use apply::Plan;
 use grammar::Cell;
@@ -235,6 +235,16 @@ fn apply_cells(
     Annotated::Done
 }
 
+// Whether there was a refusal, after which the output sheet is to be the starting sheet again.
+fn is_refusal(went: Annotated) -> bool
+    ensures { λ r. ⌜ r ≡ isRefusal went ⌝ }
+{
+    match went {
+        Annotated::Done => false,
+        Annotated::Refused { number, place } => true,
+    }
+}
+
 fn copy_sheet(start: &[u8], out: &mut [u8])
     requires { ⌜ length (now out) ≡ length (now start) ⌝ }
     ensures { λ _. ⌜ now (out .exit) ≡ now (start .entry) ⌝ }
@@ -277,16 +287,10 @@ fn apply_text(
         entries,
         out,
     );
-    match went {
-        Annotated::Done => Annotated::Done,
-        Annotated::Refused { number, place } => {
-            copy_sheet(start, out);
-            Annotated::Refused {
-                number: number,
-                place: place,
-            }
-        }
+    if is_refusal(went) {
+        copy_sheet(start, out);
     }
+    went
 }
 
 // Annotates the starting sheet with a file: the output sheet, which is as long, gets the annotated one, and the tables what was read. Each

@@ -1,6 +1,6 @@
 -- `annotate::apply_text` meets its contract.
 -- Assumes nothing.
-use mathlib.Core.Path.{ap}
+use mathlib.Core.Path.{sym, _∙_, ap}
 use lib.ListN.{length}
 use denote.Ref.{now}
 use borrow.Author.Needs.{needs}
@@ -46,11 +46,8 @@ apply-cells-requires c κs =
       pre .2,
     )
 
-enum-told : tie.Need-enum-told
-enum-told c = search needs
-
-enum-known-went : tie.Need-enum-known-went
-enum-known-went c = search needs
+is-refusal-requires : tie.Need-is-refusal-requires
+is-refusal-requires c κs = search needs
 
 copy-sheet-requires-2 : tie.Need-copy-sheet-requires-2
 copy-sheet-requires-2 c κs = search needs
@@ -60,29 +57,31 @@ same-length c = search needs
 
 returns : tie.Need-returns
 returns c =
-    let args = c .before .before .before .before .before .before .before .before .before .before .before .before .before .before .before .before .before .before .before .before .before .args in
-    let pre = c .before .before .before .before .before .before .before .before .before .before .before .before .before .before .before .before .before .before .before .before .before .pre in
-    let apply-cells = c .before .before .before .before .apply-cells in
-    let copy-sheet = c .before .before .before .before .before .before .before .before .before .before .copy-sheet in
-    let enum-told = c .enum-told in
-    λ y. text-done (now (args .start)) y (args .plan .instances) (args .plan .arcs) (args .plan .first) (pre .0) (now (args .text))
-    (args .plan .slash) (now (args .cells)) (args .count) (now (args .entries)) (apply-cells .last .1 .1 .1 .1 .1 .1 .1 .1 .0)
-    (rw (copy-sheet .ensures, enum-told .given .1) at (apply-cells .ensures .1)) y
+    let copy-sheet2 = c .before .before .copy-sheet2 in
+    let args = c .before .before .before .before .before .before .before .before .before .before .before .before .before .before .before .before .before .before .before .before .before .before .before .before .before .args in
+    let pre = c .before .before .before .before .before .before .before .before .before .before .before .before .before .before .before .before .before .before .before .before .before .before .before .before .before .pre in
+    let apply-cells = c .before .before .before .before .before .before .before .before .apply-cells in
+    let is-refusal = c .before .before .before .before .before .is-refusal in
+    let if1 = c .before .before .before .before .if1 in
+    let copy-sheet = c .before .before .before .before .before .before .before .before .before .before .before .before .before .before .copy-sheet in
+    λ y. rw (copy-sheet2 .ensures) (text-stop (now (args .start)) y (args .plan .instances) (args .plan .arcs) (args .plan .first) (pre .0)
+    (now (args .text)) (args .plan .slash) (now (args .cells)) (args .count) (now (args .entries)) (apply-cells .last .1 .1 .1 .1 .1 .1 .1 .1 .0)
+    (apply-cells .result) (sym (is-refusal .ensures) ∙ if1 .taken) (rw (copy-sheet .ensures) at (apply-cells .ensures .1)) y)
 
 same-length-2 : tie.Need-same-length-2
 same-length-2 c = search needs
 
 returns-2 : tie.Need-returns-2
 returns-2 c =
-    let copy-sheet2 = c .before .before .copy-sheet2 in
-    let args = c .before .before .before .before .before .before .before .before .before .before .before .before .before .before .before .before .before .before .before .before .before .before .before .before .before .before .args in
-    let pre = c .before .before .before .before .before .before .before .before .before .before .before .before .before .before .before .before .before .before .before .before .before .before .before .before .before .before .pre in
-    let apply-cells = c .before .before .before .before .before .before .before .before .before .apply-cells in
-    let went = c .before .before .before .before .before .went in
-    let copy-sheet = c .before .before .before .before .before .before .before .before .before .before .before .before .before .before .before .copy-sheet in
-    λ y. rw (copy-sheet2 .ensures) (text-stop (now (args .start)) y (args .plan .instances) (args .plan .arcs) (args .plan .first) (pre .0)
-    (now (args .text)) (args .plan .slash) (now (args .cells)) (args .count) (now (args .entries)) (apply-cells .last .1 .1 .1 .1 .1 .1 .1 .1 .0)
-    (went .given .0 .0) (went .given .0 .1 .0) (rw (copy-sheet .ensures, went .given .1) at (apply-cells .ensures .1)) y)
+    let args = c .before .before .before .before .before .before .before .before .before .before .before .before .before .before .before .before .before .before .before .before .before .args in
+    let pre = c .before .before .before .before .before .before .before .before .before .before .before .before .before .before .before .before .before .before .before .before .before .pre in
+    let apply-cells = c .before .before .before .before .apply-cells in
+    let is-refusal = c .before .is-refusal in
+    let if1 = c .if1 in
+    let copy-sheet = c .before .before .before .before .before .before .before .before .before .before .copy-sheet in
+    λ y. text-done (now (args .start)) y (args .plan .instances) (args .plan .arcs) (args .plan .first) (pre .0) (now (args .text))
+    (args .plan .slash) (now (args .cells)) (args .count) (now (args .entries)) (apply-cells .last .1 .1 .1 .1 .1 .1 .1 .1 .0) (apply-cells .result)
+    (sym (is-refusal .ensures) ∙ if1 .left) (rw (copy-sheet .ensures) at (apply-cells .ensures .1)) y
 
 pub apply-text-spec : {M : Type 1} → statement M
 apply-text-spec =
@@ -92,8 +91,7 @@ apply-text-spec =
     mark-arcs-requires
     copy-sheet-requires
     apply-cells-requires
-    enum-told
-    enum-known-went
+    is-refusal-requires
     copy-sheet-requires-2
     same-length
     returns
