@@ -47,7 +47,7 @@ module _ (b : List ℕ) (bytes : Bytes b) where
       rw (part-length (p + 2) n (omega arith), ← e)
       (span16 p (p + 2) refl (omega arith) ∙ ap (λ t. be16 b p / 256 ∷ be16 b p % 256 ∷ t) (span-part (p + 2) (be16 b p) q (rw e h)))
 
-  below : (p : ℕ) → be64 b p < 2 ^ 64
+  pub below : (p : ℕ) → be64 b p < 2 ^ 64
   unfolding be64
   below p =
       omega (arith, bytes p, bytes (p + 1), bytes (p + 2), bytes (p + 3), bytes (p + 4), bytes (p + 5), bytes (p + 6), bytes (p + 7))
@@ -65,7 +65,7 @@ module _ (b : List ℕ) (bytes : Bytes b) where
       (span-byte (p + 6) (p + 7) (omega arith) (omega arith) ∙ ap (λ t. getD b (p + 6) 0 ∷ t)
       (span-byte (p + 7) q (omega arith) (omega arith))))))))
 
-  span-value : (p q : ℕ) → q ≡ p + 8 → q ≤ length b → drop p b ≡ encValue (toZ w64 (be64 b p)) (drop q b)
+  pub span-value : (p q : ℕ) → q ≡ p + 8 → q ≤ length b → drop p b ≡ encValue (toZ w64 (be64 b p)) (drop q b)
   unfolding be64
   span-value p q e h = rw (ofZ-toZ w64 (be64 b p) (record { fits = below p })) (eight p q e h)
     where

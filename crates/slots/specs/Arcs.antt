@@ -36,7 +36,7 @@ are-eighteen j v zs l h =
     (λ i g. let k : i < 18 = omega arith in slots-at (λ (t : Slot). numeral (v t)) j i least k ∙ h i k)
 
 -- the arc of a slot
-arc-of : (j i : ℕ) → slotAt j i .arc ≡ j
+pub arc-of : (j i : ℕ) → slotAt j i .arc ≡ j
 unfolding slotAt
 arc-of j i = refl
 
@@ -58,7 +58,7 @@ arcs-same j v w (a ∷ xs) h =
     )
 
 -- the numbers that stand on the sheet, each as what it means
-fit-at : (zs : List ℤ) (i : ℕ) → Fit zs → i < length zs → SFits w64 (getD zs i least)
+pub fit-at : (zs : List ℤ) (i : ℕ) → Fit zs → i < length zs → SFits w64 (getD zs i least)
 fit-at [] i f h = absurd (omega arith)
 fit-at (z ∷ zs) zero f h = f .0
 fit-at (z ∷ zs) (suc i) f h = fit-at zs i (f .1) (omega arith)

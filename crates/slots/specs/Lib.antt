@@ -4,3 +4,4 @@ pub mod Arcs
 pub mod Spelled
 pub mod Found
 pub mod Shapes
+pub mod Current

@@ -1,2 +1,4 @@
+pub mod Coming
 pub mod Groups
 pub mod Sound
+pub mod One
