@@ -41,9 +41,9 @@ typedef struct boomcrutch_sheet {
     uint64_t number, place, instances, arcs;
 } boomcrutch_sheet;
 
-/* Number 0: done. Else the refusal and its place, in the incoming text if `incoming` is 1; the rest 0. */
+/* Number 0: done. Else the refusal and its place, in the incoming text if `incoming` is 1. */
 typedef struct boomcrutch_result {
-    uint64_t number, place, incoming, cells, entries, incoming_cells, incoming_entries;
+    uint64_t number, place, incoming;
 } boomcrutch_result;
 
 /* How many tokens a text has before what ends them. */

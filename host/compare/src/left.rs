@@ -197,11 +197,7 @@ fn answer_words(case: &Case, answer: &Answer, file: Option<&File>) -> Vec<u64> {
             vec![0, 0, counts.cells as u64, counts.entries as u64, slash, scale]
         }
         Answer::Sheet { instances, arcs } => vec![0, 0, instances as u64, arcs as u64],
-        Answer::Annotated(counts) => vec![0, 0, 0, counts.cells as u64, counts.entries as u64, 0, 0],
-        Answer::Patched { file, incoming } => {
-            let counts = [file.cells, file.entries, incoming.cells, incoming.entries].map(|count| count as u64);
-            [vec![0, 0, 0], counts.to_vec()].concat()
-        }
+        Answer::Annotated(_) | Answer::Patched { .. } => vec![0, 0, 0],
         Answer::Refused(refusal) => refusal_words(case, refusal),
     }
 }
@@ -211,7 +207,7 @@ fn refusal_words(case: &Case, refusal: Refusal) -> Vec<u64> {
     match case {
         Case::ReadFile { .. } | Case::ReadCell { .. } => vec![number, place, 0, 0, 0, 0],
         Case::CheckSheet { .. } => vec![number, place, 0, 0],
-        Case::Annotate { .. } | Case::Patch { .. } => vec![number, place, u64::from(refusal.incoming), 0, 0, 0, 0],
+        Case::Annotate { .. } | Case::Patch { .. } => vec![number, place, u64::from(refusal.incoming)],
     }
 }
 
@@ -253,8 +249,7 @@ fn read_words(answer: proved::ReadAnswer) -> (Vec<u64>, Vec<(u64, u64)>) {
 }
 
 fn result_words(answer: proved::ResultAnswer) -> Vec<u64> {
-    let counts = [answer.cells, answer.entries, answer.incoming_cells, answer.incoming_entries];
-    [vec![answer.number, answer.place, answer.incoming], counts.to_vec()].concat()
+    vec![answer.number, answer.place, answer.incoming]
 }
 
 #[cfg(test)]

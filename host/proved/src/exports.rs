@@ -32,12 +32,8 @@ pub struct SheetAnswer {
 pub struct ResultAnswer {
     pub number: u64,
     pub place: u64,
-    /// 1 if the place is in the incoming text.
+    /// 1 if the place is one of the incoming text.
     pub incoming: u64,
-    pub cells: u64,
-    pub entries: u64,
-    pub incoming_cells: u64,
-    pub incoming_entries: u64,
 }
 
 /// Declares each function, or, where its feature is off, one that stops the program.

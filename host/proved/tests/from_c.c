@@ -93,7 +93,6 @@ static void annotating(void) {
     boomcrutch_result result =
         boomcrutch_annotate(BYTES(SHEET), BYTES(FILE_TEXT), WORDS(cells), WORDS(entries), out, sizeof out);
     expect("annotated", result.number, 0);
-    expect("its entries", result.entries, 1);
     expect("the last maximum", value(out, 17), 3000);
     expect("the last typical", value(out, 16), BOOMCRUTCH_ABSENT);
     result = boomcrutch_annotate(BYTES(SHEET), BYTES(FILE_TEXT), WORDS(cells), WORDS(entries), out, sizeof out - 1);
@@ -110,7 +109,6 @@ static void patching(void) {
         boomcrutch_patch(BYTES(SHEET), BYTES(FILE_TEXT), 1, BYTES(CELL(":2:")), current, sizeof current, WORDS(cells),
                          WORDS(entries), WORDS(incoming_cells), WORDS(incoming_entries));
     expect("patched", result.number, 0);
-    expect("its incoming entries", result.incoming_entries, 1);
     expect("the first typical", value(current, 1), 2000);
     expect("the first maximum", value(current, 2), BOOMCRUTCH_ABSENT);
     result = boomcrutch_patch(BYTES(SHEET), BYTES(FILE_TEXT), 1, BYTES(""), current, sizeof current, WORDS(cells),
