@@ -1,13 +1,13 @@
 -- What the records alone refuse, along a list of events: the parts of the new file, a cell's keyword, and its entries.
 -- Assumes nothing.
 use mathlib.Core.Path.{_≡_, refl, sym, ap, _∙_}
-use mathlib.Core.Bool.{Bool, true, false}
+use mathlib.Core.Bool.{true, false}
 use mathlib.Core.List.{List, [], _∷_, _++_, map}
 use mathlib.Core.Option.{Option, none, some}
 use Prim.Native.Nat.{ℕ, zero, suc, _+_, _<_}
 use native.Mathlib.Omega.{arith}
 use native.Mathlib.Nat.{zero-add}
-use lib.ListN.{length, getElem?, length-map}
+use lib.ListN.{length, getD, getElem?, length-map}
 use Rattle.sound.specs.Sound.{Each}
 use Rattle.history.specs.Events.{when, Event, lenient}
 use Rattle.history.specs.EventLaws.{none≢some, some-inj}
@@ -204,3 +204,18 @@ module _ (records : Records) {Word : Type 0} where
     unfolding entryEvent ownFault ownHere later when
     own-entries-some [] e ys h q = rw q
     own-entries-some (d ∷ xs) e ys h q = rw (h .0, own-entries-some xs e ys (h .1) q)
+
+    -- the same, by the numbers of the entries
+    pub own-numbers-none : (l : List (Entry Word)) (d : Entry Word) → ((k : ℕ) → k < length l → lacks records c (getD l k d) ≡ false)
+        → ownFault (map (entryEvent records c) l) ≡ none
+    unfolding entryEvent ownFault ownHere later when
+    own-numbers-none [] d h = refl
+    own-numbers-none (e ∷ l) d h = rw (h 0 (omega arith), own-numbers-none l d (λ k g. h (suc k) (omega arith)))
+
+    pub own-numbers-some : (l : List (Entry Word)) (d : Entry Word) (k : ℕ) → k < length l → ((i : ℕ) → i < k → lacks records c (getD l i d) ≡ false)
+        → lacks records c (getD l k d) ≡ true → ownFault (map (entryEvent records c) l) ≡ some (record { event = k; number = 14 })
+    unfolding entryEvent ownFault ownHere later when
+    own-numbers-some [] d k g h q = absurd (omega arith)
+    own-numbers-some (e ∷ l) d zero g h q = rw q
+    own-numbers-some (e ∷ l) d (suc k) g h q =
+        rw (h 0 (omega arith), own-numbers-some l d k (omega arith) (λ i x. h (suc i) (omega arith)) q)
