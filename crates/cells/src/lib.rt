@@ -9,7 +9,7 @@ ghost use Rattle.rules.specs.Contracts.{Listable, item};
 ghost use Rattle.tables.specs.Layout.{entryRow};
 ghost use Rattle.tables.specs.Pastes.{put};
 ghost use Rattle.rules.specs.Bodies.{Either, Turned, OpenTurned, shutBy, itemPlace};
-ghost use Rattle.cells.specs.Cells.{BodyRead, InstanceRead, PathHere, PathBehind, HeadRead};
+ghost use Rattle.cells.specs.Cells.{groupOf, BodyRead, InstanceRead, PathHere, PathBehind, HeadRead};
 ghost use Rattle.tokens.specs.Stream.{placed};
 use tokens::Token;
 use tokens::token_from;
@@ -179,18 +179,29 @@ fn body_turn(text: &[u8], table: &[u8; 256], from: usize, within: Within, some: 
     }
 }
 
-// An entry behind its opening bracket.
+// The letter of the group of entries that stand there, or 0 where they are checks.
+fn group_of(within: Within) -> u8
+    ensures { λ r. ⌜ r ≡ groupOf within ⌝ }
+{
+    match within {
+        Within::Absolute => 65,
+        Within::Increment => 73,
+        Within::Check => 0,
+        Within::Cell => 0,
+        Within::Delay => 0,
+    }
+}
+
+// An entry behind its opening bracket. Each reader is called in one place only, so that the record is made where it is used.
 fn read_entry(text: &[u8], table: &[u8; 256], from: usize, within: Within, slash: bool, unit: u8, room: usize) -> ReadEntry
     requires { ⌜ (now table ≡ classes) × (from ≤ length (now text)) ⌝ }
     ensures { λ r. ⌜ Listable (now (text .entry)) from (itemPlace within slash) slash unit room (r .status) (r .entry) (take (r .count) (r .list)) × (r .count ≤ 6) ⌝ }
 {
-    match within {
-        Within::Absolute => read_delay(text, table, from, slash, unit, 65, room),
-        Within::Increment => read_delay(text, table, from, slash, unit, 73, room),
-        Within::Check => read_check(text, table, from, slash, unit, room),
-        Within::Cell => read_check(text, table, from, slash, unit, room),
-        Within::Delay => read_check(text, table, from, slash, unit, room),
+    let group = group_of(within);
+    if group == 0 {
+        return read_check(text, table, from, slash, unit, room);
     }
+    read_delay(text, table, from, slash, unit, group, room)
 }
 
 // The record goes to its row, where the table is to be filled.
