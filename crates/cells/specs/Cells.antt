@@ -29,6 +29,7 @@ use Rattle.grammar.specs.declared.ReadName.the-variants as rn
 use Rattle.cells.specs.declared.Instance.{Instance}
 use Rattle.cells.specs.declared.Instance.the-variants as ri
 use Rattle.cells.specs.declared.CellHead.{CellHead}
+use Rattle.cells.specs.declared.Sight.{Sight}
 use Rattle.cells.specs.declared.CellHead.the-variants as ch
 use Rattle.header.specs.Steps.{Takes, KeyRead, TextRead}
 use Rattle.grammar.specs.Grammar.{delay, check, specs, instance, path, named, type, skip, cellTail, alts, keyword, _!_, _⇒_, ⟨, ⟩}
@@ -51,6 +52,12 @@ after-more [] i l = refl
 after-more (x ∷ is) i l =
     ap (λ (z : List Item). record { texts = l .texts; cells = l .cells; items = z; begun = l .begun; head = noHead; values = []; value = nothing })
     (append-assoc (l .items) (x ∷ is) (i ∷ []))
+
+-- what stands at a place, seen: a refusal, or a token, long or not
+abbrev pub Sighted : List ℕ → ℕ → Sight → Type 0
+Sighted s p r =
+    (r .stopped ≡ true → tokenAt s p ≡ Stop (r .kind) (r .start))
+    × (r .stopped ≡ false → (l : Bool) × (tokenAt s p ≡ Got (r .kind) (r .start) (r .end) l))
 
 -- the letter of the entries of a group, or 0 where the entries are checks
 abbrev pub groupOf : Within → ℕ

@@ -9,10 +9,11 @@ ghost use Rattle.rules.specs.Contracts.{Listable, item};
 ghost use Rattle.tables.specs.Layout.{entryRow};
 ghost use Rattle.tables.specs.Pastes.{put};
 ghost use Rattle.rules.specs.Bodies.{Either, Turned, OpenTurned, shutBy, itemPlace};
-ghost use Rattle.cells.specs.Cells.{groupOf, BodyRead, InstanceRead, PathHere, PathBehind, HeadRead};
+ghost use Rattle.cells.specs.Cells.{Sighted, groupOf, BodyRead, InstanceRead, PathHere, PathBehind, HeadRead};
 ghost use Rattle.tokens.specs.Stream.{placed};
 use tokens::Token;
 use tokens::token_from;
+use tokens::mark_from;
 use words::key_of;
 use names::is_path;
 use header::take_opened;
@@ -43,6 +44,14 @@ pub enum Instance {
 pub enum CellHead {
     Head { typefrom: usize, typeto: usize, sort: u8, pathfrom: usize, pathto: usize, end: usize },
     Refused { number: u8, place: usize },
+}
+
+// What stands at a place.
+pub struct Sight {
+    pub stopped: bool,
+    pub kind: u8,
+    pub start: usize,
+    pub end: usize,
 }
 
 // One of two keywords, the first or the one that follows it in number, right behind an opening bracket.
@@ -159,24 +168,45 @@ fn open_turn(text: &[u8], table: &[u8; 256], from: usize, within: Within, slash:
     }
 }
 
+// What stands at a place: a token's kind and ends, or, where there is none, the refusal's number as the kind and its place as the start.
+// Brackets are seen at once, with no token made.
+fn look(text: &[u8], table: &[u8; 256], from: usize) -> Sight
+    requires { ⌜ (now table ≡ classes) × (from ≤ length (now text)) ⌝ }
+    ensures { λ r. ⌜ Sighted (now (text .entry)) from r ⌝ }
+{
+    let m = mark_from(text, table, from);
+    let i = m.place;
+    let mark = m.kind;
+    if 2 <= mark {
+        return Sight { stopped: false, kind: mark, start: i, end: i + 1 };
+    }
+    let t = token_from(text, table, i);
+    match t {
+        Token::Stop { number, place } => Sight { stopped: true, kind: number, start: place, end: 0 },
+        Token::Got { kind, start, end, long: _ } => Sight { stopped: false, kind: kind, start: start, end: end },
+    }
+}
+
 // One step through a cell's sections, up to the next entry.
 fn body_turn(text: &[u8], table: &[u8; 256], from: usize, within: Within, some: bool, slash: bool) -> Turn
     requires { ⌜ (now table ≡ classes) × (from ≤ length (now text)) ⌝ }
     ensures { λ r. ⌜ Turned (now (text .entry)) from within some slash r ⌝ }
 {
-    let t = token_from(text, table, from);
-    match t {
-        Token::Stop { number, place } => Turn::Refused { number: number, place: place },
-        Token::Got { kind, start, end, long: _ } => {
-            if kind == 3 {
-                return shut(within, some, start, end);
-            }
-            if kind == 2 {
-                return open_turn(text, table, end, within, slash);
-            }
-            Turn::Refused { number: 4, place: start }
-        }
+    let seen = look(text, table, from);
+    let stopped = seen.stopped;
+    let kind = seen.kind;
+    let start = seen.start;
+    let end = seen.end;
+    if stopped {
+        return Turn::Refused { number: kind, place: start };
     }
+    if kind == 3 {
+        return shut(within, some, start, end);
+    }
+    if kind == 2 {
+        return open_turn(text, table, end, within, slash);
+    }
+    Turn::Refused { number: 4, place: start }
 }
 
 // The letter of the group of entries that stand there, or 0 where they are checks.
