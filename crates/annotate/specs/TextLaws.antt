@@ -115,10 +115,9 @@ pub record Tables (st : At) (u t : List ℕ) (count : ℕ) : Type 0 where
   pub cellsFit : 7 * count ≤ length u
   pub entriesFit : 28 * entriesBefore u count ≤ length t
 
-pub tables-left : (st : At) (u t : List ℕ) (cr ir : ℕ) (s : List ℕ) → readFile cr ir s ≡ fine st
+pub tables-sound : (st : At) (u t : List ℕ) → SoundLog (st .book .log)
     → Tables st (cellsLeft (fine st) u) (entriesLeft (fine st) t) (length (st .book .log .cells))
-tables-left st u t cr ir s e =
-    let l = read-sound cr ir s st e in
+tables-sound st u t l =
     let cs = st .book .log .cells in
     let is = st .book .log .items in
     let lc = length-cells cs in
@@ -135,6 +134,10 @@ tables-left st u t cr ir s e =
       cellsFit = omega (arith, n, lc);
       entriesFit = omega (arith, m, li, b, w, v);
     }
+
+pub tables-left : (st : At) (u t : List ℕ) (cr ir : ℕ) (s : List ℕ) → readFile cr ir s ≡ fine st
+    → Tables st (cellsLeft (fine st) u) (entriesLeft (fine st) t) (length (st .book .log .cells))
+tables-left st u t cr ir s e = tables-sound st u t (read-sound cr ir s st e)
 
 tables-at : (st : At) (u u′ t t′ : List ℕ) (count cr ir : ℕ) (s : List ℕ) → readFile cr ir s ≡ fine st → count ≡ length (st .book .log .cells)
     → u′ ≡ cellsLeft (fine st) u → t′ ≡ entriesLeft (fine st) t → Tables st u′ t′ count

@@ -23,6 +23,9 @@ use Rattle.annotate.specs.declared.Annotated.{Annotated}
 use Rattle.annotate.specs.declared.Annotated.the-variants as annotated
 use Rattle.annotate.specs.Meaning.{Course, AnnotateIs, cellsOut, entriesOut, outOf}
 use Rattle.annotate.specs.Meaning as meaning
+use Rattle.patch.specs.declared.Patched.{Patched}
+use Rattle.patch.specs.declared.Patched.the-variants as patched
+use Rattle.patch.specs.Meaning as patching
 
 -- 0 and the counts, the divider (1 for /) and the time scale; or the refusal's number and its place, and nothing else
 abbrev pub fileNumbers : Answer → Bool → ℕ → List ℕ → ReadNumbers
@@ -68,3 +71,30 @@ annotatedNumbers c = resultOf (meaning.answerOf c)
 pub same-annotated : (start : List ℕ) (c : Course) (u u′ t t′ out out′ : List ℕ) (a : Annotated) → AnnotateIs start c u u′ t t′ out out′ a
     → (resultOf a ≡ annotatedNumbers c) × (u′ ≡ cellsOut u c) × (t′ ≡ entriesOut t c) × (out′ ≡ outOf start out c)
 same-annotated start c u u′ t t′ out out′ a i = (ap resultOf (i .says), i .cells, i .entries, i .sheet)
+
+-- 0; or the refusal's number and its place, in the incoming text where the last number is 1
+abbrev pub patchedOf : Patched → ResultNumbers
+patchedOf patched.Done = record { number = 0; place = 0; incoming = 0 }
+patchedOf (patched.Refused n q side) = record { number = n; place = q; incoming = pick side 1 0 }
+
+-- the patch's contract, with the answer in numbers
+pub record PatchLeft (start : List ℕ) (c : patching.Course) (u u′ t t′ u2 u2′ t2 t2′ current current′ : List ℕ) (r : ResultNumbers) : Type 0 where
+  pub says : r ≡ patchedOf (patching.answerOf c)
+  pub cells : u′ ≡ patching.fileTable cellsLeft u c
+  pub entries : t′ ≡ patching.fileTable entriesLeft t c
+  pub incomingCells : u2′ ≡ patching.cellTable cellsLeft u2 c
+  pub incomingEntries : t2′ ≡ patching.cellTable entriesLeft t2 c
+  pub sheet : current′ ≡ patching.currentOf start current c
+
+pub same-patched : (start : List ℕ) (c : patching.Course) (u u′ t t′ u2 u2′ t2 t2′ current current′ : List ℕ) (a : Patched) (r : ResultNumbers)
+    → patching.PatchIs start c u u′ t t′ u2 u2′ t2 t2′ current current′ a → r ≡ patchedOf a
+    → PatchLeft start c u u′ t t′ u2 u2′ t2 t2′ current current′ r
+same-patched start c u u′ t t′ u2 u2′ t2 t2′ current current′ a r i e =
+    record {
+      says = e ∙ ap patchedOf (i .says);
+      cells = i .cells;
+      entries = i .entries;
+      incomingCells = i .incomingCells;
+      incomingEntries = i .incomingEntries;
+      sheet = i .sheet;
+    }

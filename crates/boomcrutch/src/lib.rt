@@ -9,9 +9,12 @@ ghost use Rattle.grammar.specs.Outcome.{readFile};
 ghost use Rattle.reader.specs.Files.{cellsLeft, entriesLeft};
 ghost use Rattle.sheetform.specs.Form.{checkOf};
 ghost use Rattle.annotate.specs.Meaning.{course, cellsOut, entriesOut, outOf};
-ghost use Rattle.boomcrutch.specs.Exports.{annotatedNumbers, fileNumbers, readNumbers, cellBy, sheetNumbers};
+ghost use Rattle.patch.specs.Meaning as patching;
+ghost use Rattle.boomcrutch.specs.Exports.{annotatedNumbers, PatchLeft, fileNumbers, readNumbers, cellBy, sheetNumbers};
 use annotate::Annotated;
 use annotate::annotate;
+use patch::Patched;
+use patch::patch;
 use tokens::count_tokens;
 use reader::Answer;
 use reader::FileRead;
@@ -148,5 +151,33 @@ pub extern "C" fn boomcrutch_annotate(
     match answer {
         Annotated::Done => ResultNumbers { number: 0, place: 0, incoming: 0 },
         Annotated::Refused { number, place } => ResultNumbers { number: number as u64, place: place as u64, incoming: 0 },
+    }
+}
+
+// Patches the current sheet: cell `number` of the file, from 1, is swapped for the incoming one.
+#[no_mangle]
+pub extern "C" fn boomcrutch_patch<'a>(
+    start: &[u8],
+    file: &'a [u8],
+    number: u64,
+    incoming: &'a [u8],
+    current: &mut [u8],
+    cells: &mut [u64],
+    entries: &mut [u64],
+    incoming_cells: &mut [u64],
+    incoming_entries: &mut [u64],
+) -> ResultNumbers
+    ensures { λ r. ⌜ PatchLeft (now (start .entry)) (patching.course (now (start .entry)) (now (file .entry)) number (now (incoming .entry)) (now (current .entry))
+        (length (now (cells .entry)) / 7) (length (now (entries .entry)) / 28) (length (now («incoming_cells» .entry)) / 7)
+        (length (now («incoming_entries» .entry)) / 28)) (now (cells .entry)) (now (cells .exit)) (now (entries .entry)) (now (entries .exit))
+        (now («incoming_cells» .entry)) (now («incoming_cells» .exit)) (now («incoming_entries» .entry)) (now («incoming_entries» .exit))
+        (now (current .entry)) (now (current .exit)) r ⌝ }
+{
+    let answer = patch(start, file, number as usize, incoming, current, cells, entries, incoming_cells, incoming_entries);
+    match answer {
+        Patched::Done => ResultNumbers { number: 0, place: 0, incoming: 0 },
+        Patched::Refused { number: n, place, incoming: side } => {
+            ResultNumbers { number: n as u64, place: place as u64, incoming: bit(side) }
+        }
     }
 }

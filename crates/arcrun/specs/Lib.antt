@@ -1,0 +1,6 @@
+pub mod Touch
+pub mod Run
+pub mod RunLaws
+pub mod CellRuns
+pub mod TouchLaws
+pub mod Turns

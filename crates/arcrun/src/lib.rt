@@ -1,0 +1,586 @@
+// One arc and the entries of two texts, the old file and the incoming cell: which of its slots they touch, and its 18 values run through them.
+// `side` tells which text a table belongs to: false the file, true the incoming cell.
+ghost use mathlib.Core.Path.{_≡_};
+ghost use mathlib.Core.List.{[], _∷_};
+ghost use Prim.Native.Nat.{_+_, _*_, _≤_, _<_};
+ghost use lib.ListN.{length, getD};
+ghost use Rattle.classes.specs.Choice.{pick, and};
+ghost use Rattle.names.specs.Order.{sameText};
+ghost use Rattle.sheetform.specs.Form.{typeAt};
+ghost use Rattle.sheetlaws.specs.Sheet.{inEnd, arNext};
+ghost use Rattle.sheet.specs.Find.{InsGood, InstanceSearch};
+ghost use Rattle.annotate.specs.Whom.{InSheet};
+ghost use Rattle.annotate.specs.Cells.{entriesBefore};
+ghost use Rattle.patching.specs.Scratch.{masked, maskedWord, touchedFlags};
+ghost use Rattle.patching.specs.Meant.{meantIn, meantEvery, mayTouch};
+ghost use Rattle.arcrun.specs.Touch.{meantFor, nearBy, entriesTouched, cellTouched};
+ghost use Rattle.arcrun.specs.Run.{entryNumber, entryState, EntriesRan, CellRan, CellsRan};
+use annotate::Whom;
+use apply::Plan;
+use grammar::Entry;
+
+// The least fault: its event in the new file, from 0 on, its number, and its word.
+pub enum Least {
+    Nothing,
+    Fault {
+        event: usize,
+        number: u8,
+        place: usize,
+        incoming: bool,
+    },
+}
+
+const IOPATH: u8 = 1;
+
+const DEVICE: u8 = 4;
+
+const CHECK: u8 = 84;
+
+const ADDS: u8 = 73;
+
+const SAME: u8 = 1;
+
+const EVERY: u8 = 2;
+
+const EMPTY: u64 = 0x8000_0000_0000_0000;
+
+const INSTANCES: usize = 12;
+
+// One of the two texts.
+pub fn text_of<'a>(file: &'a [u8], incoming: &'a [u8], side: bool) -> &'a [u8]
+    ensures { λ r. ⌜ now r ≡ pick side (now (incoming .entry)) (now (file .entry)) ⌝ }
+{
+    if side {
+        return incoming;
+    }
+    file
+}
+
+// Whether an entry means the arc at a place, in the instance at another.
+fn meant_in<'a>(
+    start: &[u8],
+    file: &'a [u8],
+    incoming: &'a [u8],
+    side: bool,
+    slash: bool,
+    entry: Entry,
+    instance: usize,
+    arc: usize,
+) -> bool
+    requires { ⌜ (inEnd (now start) instance ≤ length (now start)) × (arNext (now start) arc ≤ length (now start)) ⌝ }
+    ensures { λ r. ⌜ r ≡ meantIn (now (start .entry)) (pick side (now (incoming .entry)) (now (file .entry))) slash entry instance arc ⌝ }
+{
+    let path = sheet::instance_path(start, instance);
+    let name = names::name_of(file, incoming, side, entry.from1, entry.to1);
+    if entry.kind == DEVICE {
+        if sheet::arc_kind(start, arc) != IOPATH {
+            return false;
+        }
+        let end = sheet::second_end(start, arc);
+        if entry.to1 == 0 {
+            return names::one_below(path, end);
+        }
+        return names::cmp_full(end, path, name, slash) == SAME;
+    }
+    let name2 = names::name_of(file, incoming, side, entry.from2, entry.to2);
+    sheet::key_vs(
+        start,
+        arc,
+        entry.kind,
+        entry.edge1,
+        entry.edge2,
+        path,
+        name,
+        name2,
+        slash,
+    )
+        == SAME
+}
+
+// Whether the instance at a place is of a type, and the entry means that arc in it.
+fn meant_of<'a>(
+    start: &[u8],
+    file: &'a [u8],
+    incoming: &'a [u8],
+    side: bool,
+    slash: bool,
+    entry: Entry,
+    instance: usize,
+    celltype: &[u8],
+    arc: usize,
+) -> bool
+    requires { ⌜ (inEnd (now start) instance ≤ length (now start)) × (arNext (now start) arc ≤ length (now start)) ⌝ }
+    ensures { λ r. ⌜ r ≡ and (sameText (typeAt (now (start .entry)) instance) (now (celltype .entry)))
+        (meantIn (now (start .entry)) (pick side (now (incoming .entry)) (now (file .entry))) slash entry instance arc) ⌝ }
+{
+    let own = sheet::instance_type(start, instance);
+    if names::same_text(own, celltype) {
+        return meant_in(start, file, incoming, side, slash, entry, instance, arc);
+    }
+    false
+}
+
+// Whether it means that arc in some instance of a type.
+fn meant_every<'a>(
+    start: &[u8],
+    file: &'a [u8],
+    incoming: &'a [u8],
+    side: bool,
+    plan: Plan,
+    entry: Entry,
+    celltype: &[u8],
+    arc: usize,
+) -> bool
+    requires { ⌜ (InsGood (now start) (plan .instances) 12) × (arNext (now start) arc ≤ length (now start)) ⌝ }
+    ensures { λ r. ⌜ r ≡ meantEvery (now (start .entry)) (pick side (now (incoming .entry)) (now (file .entry))) (plan .slash) entry (plan .instances)
+        (now (celltype .entry)) arc ⌝ }
+{
+    let mut some = false;
+    let mut k = 0;
+    let mut here = INSTANCES;
+    while k < plan.instances {
+        if meant_of(
+            start,
+            file,
+            incoming,
+            side,
+            plan.slash,
+            entry,
+            here,
+            celltype,
+            arc,
+        ) {
+            some = true;
+        }
+        here = sheet::next_instance(start, here);
+        k += 1;
+    }
+    some
+}
+
+// Whether it means that arc in one of the instances that its cell applies to.
+fn is_meant<'a>(
+    start: &[u8],
+    file: &'a [u8],
+    incoming: &'a [u8],
+    side: bool,
+    plan: Plan,
+    entry: Entry,
+    whom: Whom,
+    celltype: &[u8],
+    arc: usize,
+) -> bool
+    requires { ⌜ (InsGood (now start) (plan .instances) 12) × (arNext (now start) arc ≤ length (now start)) × InSheet (now start) whom ⌝ }
+    ensures { λ r. ⌜ r ≡ meantFor (now (start .entry)) (pick side (now (incoming .entry)) (now (file .entry))) (plan .slash) (plan .instances) entry whom
+        (now (celltype .entry)) arc ⌝ }
+{
+    match whom {
+        Whom::One(instance) => meant_in(
+            start,
+            file,
+            incoming,
+            side,
+            plan.slash,
+            entry,
+            instance,
+            arc,
+        ),
+        Whom::Every => meant_every(start, file, incoming, side, plan, entry, celltype, arc),
+        Whom::Nobody(number) => false,
+    }
+}
+
+// Flags the slots to which an expanded list gives a number.
+fn touch_rows(rows: [[u64; 3]; 6], flags: &mut [u8])
+    requires { ⌜ length (now flags) ≡ 18 ⌝ }
+    ensures { λ _. ⌜ now (flags .exit) ≡ touchedFlags (now (flags .entry)) rows 18 ⌝ }
+{
+    let mut slot = 0;
+    while slot < 18 {
+        if rows[slot / 3][slot % 3] != EMPTY {
+            flags[slot] = 1;
+        }
+        slot += 1;
+    }
+}
+
+// Flags the slots of an arc that so many entries supply, from entry number `first` of their table on.
+fn touch_entries<'a>(
+    start: &[u8],
+    file: &'a [u8],
+    incoming: &'a [u8],
+    side: bool,
+    plan: Plan,
+    entries: &[u64],
+    first: usize,
+    count: usize,
+    whom: Whom,
+    celltype: &[u8],
+    arc: usize,
+    flags: &mut [u8],
+)
+    requires { ⌜ (InsGood (now start) (plan .instances) 12) × (arNext (now start) arc ≤ length (now start)) × (InSheet (now start) whom)
+        × (28 * (first + count) ≤ length (now entries)) × (length (now flags) ≡ 18) ⌝ }
+    ensures { λ _. ⌜ now (flags .exit) ≡ entriesTouched (now (start .entry)) (pick side (now (incoming .entry)) (now (file .entry))) (plan .slash)
+        (plan .instances) (now (entries .entry)) first whom (now (celltype .entry)) arc (now (flags .entry)) count ⌝ }
+{
+    let mut k = 0;
+    while k < count {
+        let row = 28 * (first + k);
+        let entry = views::head_at(entries, row);
+        if is_meant(
+            start,
+            file,
+            incoming,
+            side,
+            plan,
+            entry,
+            whom,
+            celltype,
+            arc,
+        ) {
+            let rows = amounts::expand(entries, row + 10, entry.group == CHECK, entries[row + 9]);
+            touch_rows(rows, flags);
+        }
+        k += 1;
+    }
+}
+
+// Whether the instance that a cell names can have the arc at all: its path is a front part of one of the arc's ends.
+fn near_by(start: &[u8], whom: Whom, arc: usize) -> bool
+    requires { ⌜ (arNext (now start) arc ≤ length (now start)) × InSheet (now start) whom ⌝ }
+    ensures { λ r. ⌜ r ≡ nearBy (now (start .entry)) whom arc ⌝ }
+{
+    match whom {
+        Whom::Nobody(number) => false,
+        Whom::Every => true,
+        Whom::One(instance) => {
+            let path = sheet::instance_path(start, instance);
+            if names::cmp_front_written(sheet::first_end(start, arc), path, false) == SAME {
+                return true;
+            }
+            names::cmp_front_written(sheet::second_end(start, arc), path, false) == SAME
+        }
+    }
+}
+
+// Flags the slots of an arc that a cell supplies.
+pub fn touch_cell<'a>(
+    start: &[u8],
+    file: &'a [u8],
+    incoming: &'a [u8],
+    side: bool,
+    plan: Plan,
+    entries: &[u64],
+    first: usize,
+    count: usize,
+    whom: Whom,
+    celltype: &[u8],
+    arc: usize,
+    flags: &mut [u8],
+)
+    requires { ⌜ (InsGood (now start) (plan .instances) 12) × (arNext (now start) arc ≤ length (now start)) × (InSheet (now start) whom)
+        × (28 * (first + count) ≤ length (now entries)) × (length (now flags) ≡ 18) ⌝ }
+    ensures { λ _. ⌜ now (flags .exit) ≡ cellTouched (now (start .entry)) (pick side (now (incoming .entry)) (now (file .entry))) (plan .slash)
+        (plan .instances) (now (entries .entry)) first whom (now (celltype .entry)) arc (now (flags .entry)) count ⌝ }
+{
+    if near_by(start, whom, arc) {
+        touch_entries(
+            start,
+            file,
+            incoming,
+            side,
+            plan,
+            entries,
+            first,
+            count,
+            whom,
+            celltype,
+            arc,
+            flags,
+        );
+    }
+}
+
+// The word for a slot, nothing where its flag is 0.
+fn masked_word(rows: [[u64; 3]; 6], flags: &[u8], slot: usize) -> u64
+    requires { ⌜ (length (now flags) ≡ 18) × (slot < 18) ⌝ }
+    ensures { λ r. ⌜ r ≡ maskedWord rows (now (flags .entry)) slot ⌝ }
+{
+    if flags[slot] == 0 {
+        return EMPTY;
+    }
+    rows[slot / 3][slot % 3]
+}
+
+// Three of its words, from one slot on.
+fn mask_row(rows: [[u64; 3]; 6], flags: &[u8], slot: usize) -> [u64; 3]
+    requires { ⌜ (length (now flags) ≡ 18) × (slot + 3 ≤ 18) ⌝ }
+    ensures { λ r. ⌜ r ≡ maskedWord rows (now (flags .entry)) slot ∷ maskedWord rows (now (flags .entry)) (slot + 1)
+        ∷ maskedWord rows (now (flags .entry)) (slot + 2) ∷ [] ⌝ }
+{
+    [
+        masked_word(rows, flags, slot),
+        masked_word(rows, flags, slot + 1),
+        masked_word(rows, flags, slot + 2),
+    ]
+}
+
+// The expanded list with nothing for the slots that are not touched.
+fn mask(rows: [[u64; 3]; 6], flags: &[u8]) -> [[u64; 3]; 6]
+    requires { ⌜ length (now flags) ≡ 18 ⌝ }
+    ensures { λ r. ⌜ r ≡ masked rows (now (flags .entry)) ⌝ }
+{
+    [
+        mask_row(rows, flags, 0),
+        mask_row(rows, flags, 3),
+        mask_row(rows, flags, 6),
+        mask_row(rows, flags, 9),
+        mask_row(rows, flags, 12),
+        mask_row(rows, flags, 15),
+    ]
+}
+
+// Takes the arc's touched values through the entry whose row stands at a place: its refusal, or 0.
+fn run_entry<'a>(
+    start: &[u8],
+    file: &'a [u8],
+    incoming: &'a [u8],
+    side: bool,
+    plan: Plan,
+    entries: &[u64],
+    row: usize,
+    whom: Whom,
+    celltype: &[u8],
+    arc: usize,
+    flags: &[u8],
+    state: &mut [u8],
+) -> u8
+    requires { ⌜ (InsGood (now start) (plan .instances) 12) × (arNext (now start) arc ≤ length (now start)) × (InSheet (now start) whom)
+        × (row + 28 ≤ length (now entries)) × (length (now flags) ≡ 18) × (length (now state) ≡ 144) ⌝ }
+    ensures { λ r. ⌜ (r ≡ entryNumber (now (start .entry)) (pick side (now (incoming .entry)) (now (file .entry))) (plan .slash) (plan .instances)
+        (now (entries .entry)) row whom (now (celltype .entry)) arc (now (flags .entry)) (now (state .entry)))
+        × (now (state .exit) ≡ entryState (now (start .entry)) (pick side (now (incoming .entry)) (now (file .entry))) (plan .slash) (plan .instances)
+        (now (entries .entry)) row whom (now (celltype .entry)) arc (now (flags .entry)) (now (state .entry))) ⌝ }
+{
+    let entry = views::head_at(entries, row);
+    if !is_meant(
+        start,
+        file,
+        incoming,
+        side,
+        plan,
+        entry,
+        whom,
+        celltype,
+        arc,
+    ) {
+        return 0;
+    }
+    let rows = mask(
+        amounts::expand(entries, row + 10, entry.group == CHECK, entries[row + 9]),
+        flags,
+    );
+    let number = amounts::arc_refusal(state, 0, rows, entry.group == ADDS);
+    if number == 0 {
+        amounts::write_arc(state, 0, rows, entry.group == ADDS);
+    }
+    number
+}
+
+// Takes them through so many entries of one cell, the first of which is an event's number.
+fn run_entries<'a>(
+    start: &[u8],
+    file: &'a [u8],
+    incoming: &'a [u8],
+    side: bool,
+    plan: Plan,
+    entries: &[u64],
+    first: usize,
+    count: usize,
+    whom: Whom,
+    celltype: &[u8],
+    arc: usize,
+    flags: &[u8],
+    state: &mut [u8],
+    event: usize,
+) -> Least
+    requires { ⌜ (InsGood (now start) (plan .instances) 12) × (arNext (now start) arc ≤ length (now start)) × (InSheet (now start) whom)
+        × (28 * (first + count) ≤ length (now entries)) × (length (now flags) ≡ 18) × (length (now state) ≡ 144) × (event + count < 18446744073709551616) ⌝ }
+    ensures { λ r. ⌜ (length (now (state .exit)) ≡ 144) × EntriesRan (now (start .entry)) (pick side (now (incoming .entry)) (now (file .entry)))
+        (plan .slash) (plan .instances) (plan .arcs) (plan .first) side (now (entries .entry)) first count whom (now (celltype .entry)) arc
+        (now (flags .entry)) (now (state .entry)) (now (state .exit)) event r ⌝ }
+{
+    let mut k = 0;
+    while k < count {
+        let row = 28 * (first + k);
+        let number = run_entry(
+            start,
+            file,
+            incoming,
+            side,
+            plan,
+            entries,
+            row,
+            whom,
+            celltype,
+            arc,
+            flags,
+            state,
+        );
+        if number != 0 {
+            return Least::Fault {
+                event: event + k,
+                number: number,
+                place: entries[row + 2] as usize,
+                incoming: side,
+            };
+        }
+        k += 1;
+    }
+    Least::Nothing
+}
+
+// Whether a cell of a text can touch the arc: its path is a front part of one of the arc's ends.
+fn may_touch<'a>(
+    start: &[u8],
+    file: &'a [u8],
+    incoming: &'a [u8],
+    side: bool,
+    slash: bool,
+    from: usize,
+    to: usize,
+    arc: usize,
+) -> bool
+    requires { ⌜ arNext (now start) arc ≤ length (now start) ⌝ }
+    ensures { λ r. ⌜ r ≡ mayTouch (now (start .entry)) (pick side (now (incoming .entry)) (now (file .entry))) slash from to arc ⌝ }
+{
+    let path = names::name_of(file, incoming, side, from, to);
+    if names::cmp_front_written(sheet::first_end(start, arc), path, slash) == SAME {
+        return true;
+    }
+    names::cmp_front_written(sheet::second_end(start, arc), path, slash) == SAME
+}
+
+// Takes them through a cell, whose keyword is an event's number, if it can touch the arc.
+pub fn run_cell<'a>(
+    start: &[u8],
+    file: &'a [u8],
+    incoming: &'a [u8],
+    side: bool,
+    plan: Plan,
+    places: &[u32; 4096],
+    cells: &[u64],
+    row: usize,
+    entries: &[u64],
+    first: usize,
+    arc: usize,
+    flags: &[u8],
+    state: &mut [u8],
+    event: usize,
+) -> Least
+    requires { ⌜ (InstanceSearch (now start) (plan .instances) 12 (now places)) × (arNext (now start) arc ≤ length (now start))
+        × (row + 7 ≤ length (now cells)) × (28 * (first + getD (now cells) (row + 6) 0) ≤ length (now entries)) × (length (now flags) ≡ 18)
+        × (length (now state) ≡ 144) × (event + 1 + getD (now cells) (row + 6) 0 < 18446744073709551616) ⌝ }
+    ensures { λ r. ⌜ (length (now (state .exit)) ≡ 144) × CellRan (now (start .entry)) (pick side (now (incoming .entry)) (now (file .entry))) (plan .slash)
+        (plan .instances) (plan .arcs) (plan .first) side (now (cells .entry)) row (now (entries .entry)) first arc (now (flags .entry))
+        (now (state .entry)) (now (state .exit)) event r ⌝ }
+{
+    let cell = views::cell_at(cells, row);
+    if cell.sort != EVERY {
+        if !may_touch(
+            start,
+            file,
+            incoming,
+            side,
+            plan.slash,
+            cell.pathfrom,
+            cell.pathto,
+            arc,
+        ) {
+            return Least::Nothing;
+        }
+    }
+    let celltype = names::name_of(file, incoming, side, cell.typefrom, cell.typeto);
+    let whom = annotate::whom_of(start, text_of(file, incoming, side), plan, places, cell);
+    run_entries(
+        start,
+        file,
+        incoming,
+        side,
+        plan,
+        entries,
+        first,
+        cell.entries,
+        whom,
+        celltype,
+        arc,
+        flags,
+        state,
+        event + 1,
+    )
+}
+
+// Takes them through the file's cells number `from` up to `to`, from 0 on; `before` entries stand before them, and their events start at `begin`.
+pub fn run_cells<'a>(
+    start: &[u8],
+    file: &'a [u8],
+    incoming: &'a [u8],
+    plan: Plan,
+    places: &[u32; 4096],
+    cells: &[u64],
+    from: usize,
+    to: usize,
+    entries: &[u64],
+    before: usize,
+    arc: usize,
+    flags: &[u8],
+    state: &mut [u8],
+    begin: usize,
+) -> Least
+    requires { ⌜ (InstanceSearch (now start) (plan .instances) 12 (now places)) × (arNext (now start) arc ≤ length (now start))
+        × (7 * to ≤ length (now cells)) × (before ≡ entriesBefore (now cells) from) × (28 * entriesBefore (now cells) to ≤ length (now entries))
+        × (length (now flags) ≡ 18) × (length (now state) ≡ 144)
+        × (begin + (to + entriesBefore (now cells) to) < 18446744073709551616) ⌝ }
+    ensures { λ r. ⌜ (length (now (state .exit)) ≡ 144) × CellsRan (now (start .entry)) (now (file .entry)) (plan .slash) (plan .instances) (plan .arcs)
+        (plan .first) (now (cells .entry)) from to (now (entries .entry)) arc (now (flags .entry)) (now (state .entry)) (now (state .exit)) begin r ⌝ }
+{
+    let mut k = from;
+    let mut first = before;
+    let mut event = begin;
+    while k < to {
+        let row = 7 * k;
+        let least = run_cell(
+            start,
+            file,
+            incoming,
+            false,
+            plan,
+            places,
+            cells,
+            row,
+            entries,
+            first,
+            arc,
+            flags,
+            state,
+            event,
+        );
+        match least {
+            Least::Fault {
+                event: e,
+                number,
+                place,
+                incoming: i,
+            } => {
+                return least;
+            }
+            Least::Nothing => {}
+        }
+        let count = cells[row + 6] as usize;
+        first += count;
+        event += 1 + count;
+        k += 1;
+    }
+    Least::Nothing
+}

@@ -1,0 +1,9 @@
+pub mod Meaning
+pub mod Swap
+pub mod Loops
+pub mod Turns
+pub mod OwnLaws
+pub mod ArcLaws
+pub mod SwapLaws
+pub mod PatchLaws
+pub mod Demand

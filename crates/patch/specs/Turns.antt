@@ -1,0 +1,76 @@
+-- One turn of each loop of the patch.
+-- Assumes nothing.
+use Prim.Native.Nat.{ℕ, _+_, _*_, _≤_, _<_}
+use mathlib.Core.Path.{_≡_, refl}
+use mathlib.Core.Bool.{Bool, true, false}
+use mathlib.Core.List.{List}
+use native.Mathlib.Numerals.{add-one}
+use native.Mathlib.Omega.{arith}
+use lib.ListN.{length, getD}
+use lib.Seq.{paste}
+use borrow.Author.Tests.{eq-eqb, ne-eqb}
+use Rattle.classes.specs.Choice.{or}
+use Rattle.wire.specs.Wire.{be64, beBytes}
+use Rattle.patching.specs.Scratch.{backWritten}
+use Rattle.annotate.specs.Cells.{entriesBefore, entries-within}
+use Rattle.patch.specs.declared.Swap.{Swap}
+use Rattle.patch.specs.Loops.{anySet, SwapReady}
+
+or-true : (t : Bool) → or t true ≡ true
+or-true true = refl
+or-true false = refl
+
+or-false : (t : Bool) → or t false ≡ t
+or-false true = refl
+or-false false = refl
+
+-- One flag.
+module _ (flags : List ℕ) (k : ℕ) (now old : Bool) (was : old ≡ anySet flags k) where
+  pub flag-with : (getD flags k 0 ≡ 0 → ⊥) → now ≡ true → now ≡ anySet flags (k + 1)
+  unfolding anySet
+  flag-with d e = rw (add-one, ne-eqb _ _ d, or-true, e)
+
+  pub flag-without : getD flags k 0 ≡ 0 → now ≡ old → now ≡ anySet flags (k + 1)
+  unfolding anySet
+  flag-without d e = rw (add-one, eq-eqb _ _ d, or-false, e, was)
+
+-- One value.
+module _ (cur : List ℕ) (at : ℕ) (st flags : List ℕ) (n : ℕ) (now old : List ℕ) (was : old ≡ backWritten cur at st flags n) where
+  pub value-with : (getD flags n 0 ≡ 0 → ⊥) → now ≡ paste old (at + 8 * n) (beBytes (be64 st (8 * n))) 8 → now ≡ backWritten cur at st flags (n + 1)
+  unfolding backWritten
+  value-with d e = rw (add-one, ne-eqb _ _ d, e, was)
+
+  pub value-without : getD flags n 0 ≡ 0 → now ≡ old → now ≡ backWritten cur at st flags (n + 1)
+  unfolding backWritten
+  value-without d e = rw (add-one, eq-eqb _ _ d, e, was)
+
+-- What the swap's numbers leave room for.
+module _ {cells entries cells2 entries2 : List ℕ} {swap : Swap} (ready : SwapReady cells entries cells2 entries2 swap) where
+  -- the outgoing cell's entries are in the table
+  pub leaves : 28 * (swap .before + swap .leaving) ≤ length entries
+  leaves =
+      let w = entries-within cells (swap .outgoing) (swap .cells) (ready .there) in
+      let room = ready .entriesRoom in
+      let b = ready .before in
+      let l = ready .leaving in
+      omega arith
+
+  -- and those before it
+  pub front-room : 28 * entriesBefore cells (swap .outgoing) ≤ length entries
+  front-room = let l = leaves in let b = ready .before in omega arith
+
+  -- those behind it start here
+  pub behind-at : swap .before + swap .leaving ≡ entriesBefore cells (swap .outgoing + 1)
+  unfolding entriesBefore
+  behind-at = rw (add-one, ready .before, ready .leaving)
+
+  -- the numbers of the new file's events fit
+  pub events-fit : length cells < 18446744073709551616 → length entries < 18446744073709551616 → length entries2 < 18446744073709551616
+      → swap .outgoing + swap .before + 1 + swap .coming + (swap .cells + entriesBefore cells (swap .cells)) < 18446744073709551616
+  events-fit c e e2 =
+      let l = leaves in
+      let room = ready .room in
+      let t = ready .there in
+      let r = ready .entriesRoom in
+      let r2 = ready .entriesRoom2 in
+      omega arith

@@ -1,0 +1,820 @@
+// Patching: one re-issued cell in a sheet that was annotated before (document 01, 'Patching').
+//
+// First decide, then write: the slots that the outgoing or the incoming cell supplies are found arc by arc; the values of such an arc run through
+// the new file's entries in an array of their own; the least fault, by its event in the new file, decides; and only then are values written.
+ghost use mathlib.Core.Path.{_≡_};
+ghost use Prim.Native.Nat.{_+_, _*_, _/_, _≤_, _<_};
+ghost use lib.ListN.{length, getD, take, drop};
+ghost use Rattle.sheetform.specs.Form.{checkOf};
+ghost use Rattle.sheetform.specs.declared.SheetCheck.the-variants.{Good};
+ghost use Rattle.sheetlaws.specs.Sheet.{arNext};
+ghost use Rattle.sheet.specs.Find.{InsGood, InstanceSearch, ArcSearch};
+ghost use Rattle.annotate.specs.Whom.{InSheet};
+ghost use Rattle.annotate.specs.Entries.{refusalFor};
+ghost use Rattle.annotate.specs.Cells.{entriesBefore};
+ghost use Rattle.patching.specs.Scratch.{backWritten};
+ghost use Rattle.patch.specs.Loops.{anySet, betterOf, bothTouched, SwapReady, SwapFits, OwnEntries, OwnIs, ArcRan, ArcsRan, ArcsWritten, SwapRun, CellPatched};
+ghost use Rattle.patch.specs.Meaning.{course, PatchIs};
+use annotate::Whom;
+use apply::Plan;
+use arcrun::Least;
+use reader::Answer;
+use sheetform::SheetCheck;
+
+pub enum Patched {
+    Done,
+    Refused {
+        number: u8,
+        place: usize,
+        incoming: bool,
+    },
+}
+
+// What is swapped: the number of the outgoing cell, from 0 on, among so many; how many entries stand before it, how many go and how many come.
+pub struct Swap {
+    pub outgoing: usize,
+    pub cells: usize,
+    pub before: usize,
+    pub leaving: usize,
+    pub coming: usize,
+}
+
+const CHECK: u8 = 84;
+
+const LACKING: u8 = 14;
+
+// The number of the first cell.
+const FIRST: usize = 0;
+
+// How many entries the first cells of a table have.
+fn count_entries(cells: &[u64], count: usize) -> usize
+    requires { ⌜ (7 * count ≤ length (now cells)) × (28 * entriesBefore (now cells) count < 18446744073709551616) ⌝ }
+    ensures { λ r. ⌜ r ≡ entriesBefore (now (cells .entry)) count ⌝ }
+{
+    let mut sum = 0;
+    let mut k = 0;
+    while k < count {
+        sum += cells[7 * k + 6] as usize;
+        k += 1;
+    }
+    sum
+}
+
+fn any_set(flags: &[u8]) -> bool
+    ensures { λ r. ⌜ r ≡ anySet (now (flags .entry)) (length (now (flags .entry))) ⌝ }
+{
+    let mut some = false;
+    let mut k = 0;
+    while k < flags.len() {
+        if flags[k] != 0 {
+            some = true;
+        }
+        k += 1;
+    }
+    some
+}
+
+// The lesser of two faults, by event and then by number; the first, if they are equal.
+fn better(a: Least, b: Least) -> Least
+    ensures { λ r. ⌜ r ≡ betterOf a b ⌝ }
+{
+    match a {
+        Least::Nothing => b,
+        Least::Fault {
+            event,
+            number,
+            place,
+            incoming,
+        } => {
+            match b {
+                Least::Nothing => Least::Fault {
+                    event: event,
+                    number: number,
+                    place: place,
+                    incoming: incoming,
+                },
+                Least::Fault {
+                    event: event2,
+                    number: number2,
+                    place: place2,
+                    incoming: incoming2,
+                } => {
+                    if event2 < event {
+                        return Least::Fault {
+                            event: event2,
+                            number: number2,
+                            place: place2,
+                            incoming: incoming2,
+                        };
+                    }
+                    if event2 == event {
+                        if number2 < number {
+                            return Least::Fault {
+                                event: event2,
+                                number: number2,
+                                place: place2,
+                                incoming: incoming2,
+                            };
+                        }
+                    }
+                    Least::Fault {
+                        event: event,
+                        number: number,
+                        place: place,
+                        incoming: incoming,
+                    }
+                }
+            }
+        }
+    }
+}
+
+// What the entry whose row stands at a place meets on the starting sheet: the least of 14, 15 and 16, or 0.
+fn own_refusal(
+    start: &[u8],
+    incoming: &[u8],
+    plan: Plan,
+    marks: &[u32; 4096],
+    entries: &[u64],
+    row: usize,
+    whom: Whom,
+    celltype: &[u8],
+) -> u8
+    requires { ⌜ (InsGood (now start) (plan .instances) 12) × (ArcSearch (now start) (plan .arcs) (plan .first) (now marks)) × (InSheet (now start) whom)
+        × (row + 28 ≤ length (now entries)) ⌝ }
+    ensures { λ r. ⌜ r ≡ refusalFor (now (start .entry)) (now (incoming .entry)) (plan .slash) (plan .instances) (plan .arcs) (plan .first)
+        (now (entries .entry)) row whom (now (celltype .entry)) (now (start .entry)) ⌝ }
+{
+    let entry = views::head_at(entries, row);
+    let rows = amounts::expand(entries, row + 10, entry.group == CHECK, entries[row + 9]);
+    match whom {
+        Whom::One(instance) => apply::refusal_in(
+            start,
+            incoming,
+            plan,
+            entry,
+            rows,
+            marks,
+            start,
+            instance,
+        ),
+        Whom::Every => apply::refusal_every(
+            start,
+            incoming,
+            plan,
+            entry,
+            rows,
+            marks,
+            start,
+            celltype,
+        ),
+        Whom::Nobody(number) => 0,
+    }
+}
+
+// The first entry of the incoming cell that lacks an arc in an instance: 14. The first one is an event's number.
+fn own_entries(
+    start: &[u8],
+    incoming: &[u8],
+    plan: Plan,
+    marks: &[u32; 4096],
+    entries: &[u64],
+    count: usize,
+    whom: Whom,
+    celltype: &[u8],
+    event: usize,
+) -> Least
+    requires { ⌜ (InsGood (now start) (plan .instances) 12) × (ArcSearch (now start) (plan .arcs) (plan .first) (now marks)) × (InSheet (now start) whom)
+        × (28 * count ≤ length (now entries)) × (event + count < 18446744073709551616) ⌝ }
+    ensures { λ r. ⌜ OwnEntries (now (start .entry)) (plan .instances) (plan .arcs) (plan .first) (now (incoming .entry)) (plan .slash) (now (entries .entry))
+        count whom (now (celltype .entry)) event r ⌝ }
+{
+    let mut k = 0;
+    while k < count {
+        let row = 28 * k;
+        let refusal = own_refusal(start, incoming, plan, marks, entries, row, whom, celltype);
+        if refusal == LACKING {
+            return Least::Fault {
+                event: event + k,
+                number: LACKING,
+                place: entries[row + 2] as usize,
+                incoming: true,
+            };
+        }
+        k += 1;
+    }
+    Least::Nothing
+}
+
+// What the records alone refuse of the incoming cell, whose keyword is an event's number: 12 or 13, or the first 14.
+fn own_fault(
+    start: &[u8],
+    incoming: &[u8],
+    plan: Plan,
+    places: &[u32; 4096],
+    marks: &[u32; 4096],
+    cells: &[u64],
+    entries: &[u64],
+    event: usize,
+) -> Least
+    requires { ⌜ (InstanceSearch (now start) (plan .instances) 12 (now places)) × (ArcSearch (now start) (plan .arcs) (plan .first) (now marks))
+        × (7 ≤ length (now cells)) × (28 * getD (now cells) 6 0 ≤ length (now entries)) × (event + 1 + getD (now cells) 6 0 < 18446744073709551616) ⌝ }
+    ensures { λ r. ⌜ OwnIs (now (start .entry)) (plan .instances) (plan .arcs) (plan .first) (now (incoming .entry)) (plan .slash) (now (cells .entry))
+        (now (entries .entry)) event r ⌝ }
+{
+    let cell = views::cell_at(cells, 0);
+    let celltype = names::part_of(incoming, cell.typefrom, cell.typeto);
+    let whom = annotate::whom_of(start, incoming, plan, places, cell);
+    match whom {
+        Whom::Nobody(number) => Least::Fault {
+            event: event,
+            number: number,
+            place: cell.place,
+            incoming: true,
+        },
+        Whom::One(instance) => {
+            own_entries(
+                start,
+                incoming,
+                plan,
+                marks,
+                entries,
+                cell.entries,
+                Whom::One(instance),
+                celltype,
+                event + 1,
+            )
+        }
+        Whom::Every => own_entries(
+            start,
+            incoming,
+            plan,
+            marks,
+            entries,
+            cell.entries,
+            Whom::Every,
+            celltype,
+            event + 1,
+        ),
+    }
+}
+
+// Flags the slots of an arc that the outgoing or the incoming cell supplies, and tells whether there is one.
+fn touch_both<'a>(
+    start: &[u8],
+    file: &'a [u8],
+    incoming: &'a [u8],
+    plan: Plan,
+    swap: Swap,
+    entries: &[u64],
+    leaver: Whom,
+    leavertype: &[u8],
+    entries2: &[u64],
+    comer: Whom,
+    comertype: &[u8],
+    arc: usize,
+    flags: &mut [u8],
+) -> bool
+    requires { ⌜ (InsGood (now start) (plan .instances) 12) × (arNext (now start) arc ≤ length (now start)) × (InSheet (now start) leaver)
+        × (InSheet (now start) comer) × (28 * (swap .before + swap .leaving) ≤ length (now entries)) × (28 * swap .coming ≤ length (now entries2))
+        × (length (now flags) ≡ 18) ⌝ }
+    ensures { λ r. ⌜ (now (flags .exit) ≡ bothTouched (now (start .entry)) (now (file .entry)) (now (incoming .entry)) (plan .slash) (plan .instances)
+        (now (entries .entry)) (swap .before) (swap .leaving) leaver (now (leavertype .entry)) (now (entries2 .entry)) (swap .coming) comer
+        (now (comertype .entry)) arc (now (flags .entry))) × (r ≡ anySet (now (flags .exit)) 18) ⌝ }
+{
+    arcrun::touch_cell(
+        start,
+        file,
+        incoming,
+        false,
+        plan,
+        entries,
+        swap.before,
+        swap.leaving,
+        leaver,
+        leavertype,
+        arc,
+        flags,
+    );
+    arcrun::touch_cell(
+        start,
+        file,
+        incoming,
+        true,
+        plan,
+        entries2,
+        0,
+        swap.coming,
+        comer,
+        comertype,
+        arc,
+        flags,
+    );
+    any_set(flags)
+}
+
+// Copies the 144 bytes of an arc's values.
+fn load_values(sheet: &[u8], at: usize, state: &mut [u8])
+    requires { ⌜ (at + 144 ≤ length (now sheet)) × (length (now state) ≡ 144) ⌝ }
+    ensures { λ _. ⌜ now (state .exit) ≡ take 144 (drop at (now (sheet .entry))) ⌝ }
+{
+    let mut k = 0;
+    while k < 144 {
+        state[k] = sheet[at + k];
+        k += 1;
+    }
+}
+
+// Takes the touched values of an arc from the starting sheet through the new file: the cells before, the incoming one, those behind.
+fn run_arc<'a>(
+    start: &[u8],
+    file: &'a [u8],
+    incoming: &'a [u8],
+    plan: Plan,
+    swap: Swap,
+    places: &[u32; 4096],
+    cells: &[u64],
+    entries: &[u64],
+    cells2: &[u64],
+    entries2: &[u64],
+    arc: usize,
+    flags: &[u8],
+    state: &mut [u8],
+) -> Least
+    requires { ⌜ (InstanceSearch (now start) (plan .instances) 12 (now places)) × (arNext (now start) arc ≤ length (now start))
+        × SwapReady (now cells) (now entries) (now cells2) (now entries2) swap × (length (now flags) ≡ 18) × (length (now state) ≡ 144) ⌝ }
+    ensures { λ r. ⌜ (length (now (state .exit)) ≡ 144) × ArcRan (now (start .entry)) (plan .instances) (plan .arcs) (plan .first) (now (file .entry))
+        (now (incoming .entry)) (plan .slash) (now (cells .entry)) (now (entries .entry)) (now (cells2 .entry)) (now (entries2 .entry)) swap arc
+        (now (flags .entry)) (now (state .exit)) r ⌝ }
+{
+    load_values(start, sheet::values_place(start, arc), state);
+    let k = swap.outgoing;
+    let front = arcrun::run_cells(
+        start,
+        file,
+        incoming,
+        plan,
+        places,
+        cells,
+        FIRST,
+        k,
+        entries,
+        0,
+        arc,
+        flags,
+        state,
+        0,
+    );
+    match front {
+        Least::Fault {
+            event,
+            number,
+            place,
+            incoming: side,
+        } => {
+            return Least::Fault {
+                event: event,
+                number: number,
+                place: place,
+                incoming: side,
+            };
+        }
+        Least::Nothing => {}
+    }
+    let event = k + swap.before;
+    let own = arcrun::run_cell(
+        start,
+        file,
+        incoming,
+        true,
+        plan,
+        places,
+        cells2,
+        0,
+        entries2,
+        0,
+        arc,
+        flags,
+        state,
+        event,
+    );
+    match own {
+        Least::Fault {
+            event: e,
+            number,
+            place,
+            incoming: side,
+        } => {
+            return Least::Fault {
+                event: e,
+                number: number,
+                place: place,
+                incoming: side,
+            };
+        }
+        Least::Nothing => {}
+    }
+    let behind = swap.before + swap.leaving;
+    let begin = event + 1 + swap.coming;
+    arcrun::run_cells(
+        start,
+        file,
+        incoming,
+        plan,
+        places,
+        cells,
+        k + 1,
+        swap.cells,
+        entries,
+        behind,
+        arc,
+        flags,
+        state,
+        begin,
+    )
+}
+
+// The least fault of all touched slots and of the incoming cell's own.
+fn least_of_arcs<'a>(
+    start: &[u8],
+    file: &'a [u8],
+    incoming: &'a [u8],
+    plan: Plan,
+    swap: Swap,
+    places: &[u32; 4096],
+    cells: &[u64],
+    entries: &[u64],
+    leaver: Whom,
+    leavertype: &[u8],
+    cells2: &[u64],
+    entries2: &[u64],
+    comer: Whom,
+    comertype: &[u8],
+    own: Least,
+) -> Least
+    requires { ⌜ SwapFits (now start) plan swap (now places) (now cells) (now entries) leaver (now cells2) (now entries2) comer ⌝ }
+    ensures { λ r. ⌜ ArcsRan (now (start .entry)) (plan .instances) (plan .arcs) (plan .first) (now (file .entry)) (now (incoming .entry)) (plan .slash)
+        (now (cells .entry)) (now (entries .entry)) (now (cells2 .entry)) (now (entries2 .entry)) swap leaver (now (leavertype .entry)) comer
+        (now (comertype .entry)) own r ⌝ }
+{
+    let mut best = own;
+    let mut j = 0;
+    let mut arc = plan.first;
+    while j < plan.arcs {
+        let mut flags = [0u8; 18];
+        let touched = touch_both(
+            start,
+            file,
+            incoming,
+            plan,
+            swap,
+            entries,
+            leaver,
+            leavertype,
+            entries2,
+            comer,
+            comertype,
+            arc,
+            &mut flags,
+        );
+        if touched {
+            let mut state = [0u8; 144];
+            let fault = run_arc(
+                start,
+                file,
+                incoming,
+                plan,
+                swap,
+                places,
+                cells,
+                entries,
+                cells2,
+                entries2,
+                arc,
+                &flags,
+                &mut state,
+            );
+            best = better(best, fault);
+        }
+        arc = sheet::next_arc(start, arc);
+        j += 1;
+    }
+    best
+}
+
+// Writes the touched values of an arc from its run to the current sheet.
+fn write_back(current: &mut [u8], at: usize, state: &[u8], flags: &[u8])
+    requires { ⌜ (at + 144 ≤ length (now current)) × (length (now state) ≡ 144) × (length (now flags) ≡ 18) ⌝ }
+    ensures { λ _. ⌜ now (current .exit) ≡ backWritten (now (current .entry)) at (now (state .entry)) (now (flags .entry)) 18 ⌝ }
+{
+    let mut slot = 0;
+    while slot < 18 {
+        if flags[slot] != 0 {
+            let word = wire::u64_at(state, 8 * slot);
+            wire::write_i64(current, at + 8 * slot, wire::of_bits(word));
+        }
+        slot += 1;
+    }
+}
+
+// Writes every touched value: what the new file's history makes of its starting value.
+fn write_arcs<'a>(
+    start: &[u8],
+    file: &'a [u8],
+    incoming: &'a [u8],
+    plan: Plan,
+    swap: Swap,
+    places: &[u32; 4096],
+    cells: &[u64],
+    entries: &[u64],
+    leaver: Whom,
+    leavertype: &[u8],
+    cells2: &[u64],
+    entries2: &[u64],
+    comer: Whom,
+    comertype: &[u8],
+    current: &mut [u8],
+)
+    requires { ⌜ (SwapFits (now start) plan swap (now places) (now cells) (now entries) leaver (now cells2) (now entries2) comer)
+        × (length (now current) ≡ length (now start)) ⌝ }
+    ensures { λ _. ⌜ ArcsWritten (now (start .entry)) (plan .instances) (plan .arcs) (plan .first) (now (file .entry)) (now (incoming .entry)) (plan .slash)
+        (now (cells .entry)) (now (entries .entry)) (now (cells2 .entry)) (now (entries2 .entry)) swap leaver (now (leavertype .entry)) comer
+        (now (comertype .entry)) (now (current .entry)) (now (current .exit)) ⌝ }
+{
+    let mut j = 0;
+    let mut arc = plan.first;
+    while j < plan.arcs {
+        let mut flags = [0u8; 18];
+        let touched = touch_both(
+            start,
+            file,
+            incoming,
+            plan,
+            swap,
+            entries,
+            leaver,
+            leavertype,
+            entries2,
+            comer,
+            comertype,
+            arc,
+            &mut flags,
+        );
+        if touched {
+            let mut state = [0u8; 144];
+            run_arc(
+                start,
+                file,
+                incoming,
+                plan,
+                swap,
+                places,
+                cells,
+                entries,
+                cells2,
+                entries2,
+                arc,
+                &flags,
+                &mut state,
+            );
+            write_back(current, sheet::values_place(start, arc), &state, &flags);
+        }
+        arc = sheet::next_arc(start, arc);
+        j += 1;
+    }
+}
+
+// Swaps one cell of a file that was read for the incoming one.
+fn swap_cell<'a>(
+    start: &[u8],
+    file: &'a [u8],
+    incoming: &'a [u8],
+    plan: Plan,
+    swap: Swap,
+    cells: &[u64],
+    entries: &[u64],
+    cells2: &[u64],
+    entries2: &[u64],
+    current: &mut [u8],
+) -> Patched
+    requires { ⌜ (checkOf (now start) ≡ Good (plan .instances) (plan .arcs) (plan .first))
+        × (SwapReady (now cells) (now entries) (now cells2) (now entries2) swap) × (length (now current) ≡ length (now start)) ⌝ }
+    ensures { λ r. ⌜ SwapRun (now (start .entry)) (plan .instances) (plan .arcs) (plan .first) (now (file .entry)) (now (incoming .entry)) (plan .slash)
+        (now (cells .entry)) (now (entries .entry)) (now (cells2 .entry)) (now (entries2 .entry)) swap (now (current .entry)) (now (current .exit)) r ⌝ }
+{
+    let mut places = [0u32; 4096];
+    sheet::mark_instances(start, plan.instances, 12, &mut places);
+    let mut marks = [0u32; 4096];
+    sheet::mark_arcs(start, plan.arcs, plan.first, &mut marks);
+    let at = swap.outgoing + swap.before;
+    let own = own_fault(start, incoming, plan, &places, &marks, cells2, entries2, at);
+    let out = views::cell_at(cells, 7 * swap.outgoing);
+    let leaver = annotate::whom_of(start, file, plan, &places, out);
+    let leavertype = names::part_of(file, out.typefrom, out.typeto);
+    let into = views::cell_at(cells2, 0);
+    let comer = annotate::whom_of(start, incoming, plan, &places, into);
+    let comertype = names::part_of(incoming, into.typefrom, into.typeto);
+    let least = least_of_arcs(
+        start,
+        file,
+        incoming,
+        plan,
+        swap,
+        &places,
+        cells,
+        entries,
+        leaver,
+        leavertype,
+        cells2,
+        entries2,
+        comer,
+        comertype,
+        own,
+    );
+    match least {
+        Least::Fault {
+            event: e,
+            number,
+            place,
+            incoming: side,
+        } => {
+            Patched::Refused {
+                number: number,
+                place: place,
+                incoming: side,
+            }
+        }
+        Least::Nothing => {
+            write_arcs(
+                start,
+                file,
+                incoming,
+                plan,
+                swap,
+                &places,
+                cells,
+                entries,
+                leaver,
+                leavertype,
+                cells2,
+                entries2,
+                comer,
+                comertype,
+                current,
+            );
+            Patched::Done
+        }
+    }
+}
+
+// Patches the current sheet: cell `number` of the file, from 1, is swapped for the incoming one. Each refusal has the paper's number, its
+// place and its text; after one the current sheet is as it was.
+pub fn patch<'a>(
+    start: &[u8],
+    file: &'a [u8],
+    number: usize,
+    incoming: &'a [u8],
+    current: &mut [u8],
+    cells: &mut [u64],
+    entries: &mut [u64],
+    cells2: &mut [u64],
+    entries2: &mut [u64],
+) -> Patched
+    ensures { λ r. ⌜ PatchIs (now (start .entry)) (course (now (start .entry)) (now (file .entry)) number (now (incoming .entry)) (now (current .entry))
+        (length (now (cells .entry)) / 7) (length (now (entries .entry)) / 28) (length (now (cells2 .entry)) / 7) (length (now (entries2 .entry)) / 28))
+        (now (cells .entry)) (now (cells .exit)) (now (entries .entry)) (now (entries .exit)) (now (cells2 .entry)) (now (cells2 .exit))
+        (now (entries2 .entry)) (now (entries2 .exit)) (now (current .entry)) (now (current .exit)) r ⌝ }
+{
+    let check = sheetform::check_sheet(start);
+    match check {
+        SheetCheck::Bad { number: k, place } => Patched::Refused {
+            number: 10,
+            place: 0,
+            incoming: false,
+        },
+        SheetCheck::Good {
+            instances,
+            arcs,
+            first_arc,
+        } => {
+            if current.len() != start.len() {
+                return Patched::Refused {
+                    number: 11,
+                    place: 0,
+                    incoming: false,
+                };
+            }
+            if !sheet::same_records(start, current, arcs, first_arc) {
+                return Patched::Refused {
+                    number: 18,
+                    place: 0,
+                    incoming: false,
+                };
+            }
+            let read = reader::read_file(file, cells, entries);
+            let answer = read.answer;
+            match answer {
+                Answer::Refused { number: n, place } => Patched::Refused {
+                    number: n,
+                    place: place,
+                    incoming: false,
+                },
+                Answer::Read {
+                    cells: count,
+                    entries: all,
+                } => {
+                    if number == 0 {
+                        return Patched::Refused {
+                            number: 17,
+                            place: 0,
+                            incoming: false,
+                        };
+                    }
+                    if number > count {
+                        return Patched::Refused {
+                            number: 17,
+                            place: 0,
+                            incoming: false,
+                        };
+                    }
+                    let plan = Plan {
+                        instances: instances,
+                        arcs: arcs,
+                        first: first_arc,
+                        slash: read.slash,
+                    };
+                    patch_cell(
+                        start,
+                        file,
+                        number - 1,
+                        incoming,
+                        current,
+                        plan,
+                        read.unit,
+                        cells,
+                        count,
+                        entries,
+                        cells2,
+                        entries2,
+                    )
+                }
+            }
+        }
+    }
+}
+
+// The file was read, and has that cell: reads the incoming text and swaps the two.
+fn patch_cell<'a>(
+    start: &[u8],
+    file: &'a [u8],
+    outgoing: usize,
+    incoming: &'a [u8],
+    current: &mut [u8],
+    plan: Plan,
+    unit: u8,
+    cells: &[u64],
+    count: usize,
+    entries: &[u64],
+    cells2: &mut [u64],
+    entries2: &mut [u64],
+) -> Patched
+    requires { ⌜ (checkOf (now start) ≡ Good (plan .instances) (plan .arcs) (plan .first)) × (length (now current) ≡ length (now start))
+        × (7 * count ≤ length (now cells)) × (28 * entriesBefore (now cells) count ≤ length (now entries)) × (outgoing < count) ⌝ }
+    ensures { λ r. ⌜ CellPatched (now (start .entry)) (plan .instances) (plan .arcs) (plan .first) (now (file .entry)) (now (incoming .entry)) (plan .slash) unit
+        (now (cells .entry)) (now (entries .entry)) count outgoing (now (cells2 .entry)) (now (cells2 .exit)) (now (entries2 .entry)) (now (entries2 .exit))
+        (now (current .entry)) (now (current .exit)) r ⌝ }
+{
+    let read = reader::read_cell(incoming, plan.slash, unit, cells2, entries2);
+    let answer = read.answer;
+    match answer {
+        Answer::Refused { number, place } => Patched::Refused {
+            number: number,
+            place: place,
+            incoming: true,
+        },
+        Answer::Read {
+            cells: one,
+            entries: all,
+        } => {
+            let swap = Swap {
+                outgoing: outgoing,
+                cells: count,
+                before: count_entries(cells, outgoing),
+                leaving: cells[7 * outgoing + 6] as usize,
+                coming: cells2[6] as usize,
+            };
+            swap_cell(
+                start,
+                file,
+                incoming,
+                plan,
+                swap,
+                cells,
+                entries,
+                cells2,
+                entries2,
+                current,
+            )
+        }
+    }
+}
