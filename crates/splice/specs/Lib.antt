@@ -1,2 +1,5 @@
 pub mod Along
 pub mod Swap
+pub mod Phases
+pub mod Moved
+pub mod OneCell

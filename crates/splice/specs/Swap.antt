@@ -66,7 +66,7 @@ closing : Bracket 41
 unfolding classOf
 closing = inr refl
 
-map-append : {A B : Type 0} (f : A → B) (l m : List A) → map f (l ++ m) ≡ map f l ++ map f m
+pub map-append : {A B : Type 0} (f : A → B) (l m : List A) → map f (l ++ m) ≡ map f l ++ map f m
 map-append f [] m = refl
 map-append {B = B} f (a ∷ l) m = ap (λ (x : List B). f a ∷ x) (map-append f l m)
 
