@@ -3,3 +3,5 @@ pub mod Swap
 pub mod Phases
 pub mod Moved
 pub mod OneCell
+pub mod Blocks
+pub mod Several
