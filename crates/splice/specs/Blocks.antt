@@ -46,7 +46,7 @@ use Rattle.laws.specs.Behind.{Fed, fed-uncons}
 use Rattle.splice.specs.OneCell.{Block}
 
 -- what a token that is taken leaves, and by which terminal
-abbrev Takes : Stack → Taken → Stack → Type 0
+abbrev pub Takes : Stack → Taken → Stack → Type 0
 Takes ss x m = feed fits alts ss (x .tok) ≡ some (record { by = x .by; left = m })
 
 pub fed-cons : (ss : Stack) (x : Taken) (xs : List Taken) (l m : Stack) → feed fits alts ss (x .tok) ≡ some (record { by = x .by; left = m }) → Fed m xs l →
@@ -54,13 +54,13 @@ pub fed-cons : (ss : Stack) (x : Taken) (xs : List Taken) (l m : Stack) → feed
 unfolding feeds
 fed-cons ss x xs l m e f = rw (e, f)
 
-took-by : {v w : Took Term N} → _≡_ {A = Option (Took Term N)} (some v) (some w) → v .by ≡ w .by
+pub took-by : {v w : Took Term N} → _≡_ {A = Option (Took Term N)} (some v) (some w) → v .by ≡ w .by
 took-by e = ap (λ (x : Took Term N). x .by) (took-inj e)
   where
     took-inj : {v w : Took Term N} → _≡_ {A = Option (Took Term N)} (some v) (some w) → v ≡ w
     took-inj e = cc
 
-took-left : {v w : Took Term N} → _≡_ {A = Option (Took Term N)} (some v) (some w) → v .left ≡ w .left
+pub took-left : {v w : Took Term N} → _≡_ {A = Option (Took Term N)} (some v) (some w) → v .left ≡ w .left
 took-left e = ap (λ (x : Took Term N). x .left) (took-inj e)
   where
     took-inj : {v w : Took Term N} → _≡_ {A = Option (Took Term N)} (some v) (some w) → v ≡ w
@@ -77,14 +77,14 @@ unfolding feeds
 fed-something y ss e = nil≢cons (ap (λ (r : Row Term N). r .left) (some-inj (sym e)))
 
 -- one alternative after the other
-first-or : (v : Bool) (a : Alt Term N) (o : Option (Alt Term N)) (ss m : Stack) (c : Term) →
+pub first-or : (v : Bool) (a : Alt Term N) (o : Option (Alt Term N)) (ss m : Stack) (c : Term) →
     onto ss (pick v (some a) o) ≡ some (record { by = c; left = m }) →
     ((c ≡ a .head) × (m ≡ a .rest ++ ss)) ⊎ (onto ss o ≡ some (record { by = c; left = m }))
 first-or true a o ss m c e = inl (sym (took-by e), sym (took-left e))
 first-or false a o ss m c e = inr e
 
 -- A stack in two parts: what is taken from it is taken from the upper one, and then from the lower one.
-feed-under : (y : Sym Term N) (ss zz m : Stack) (x : Taken) → Takes (y ∷ (ss ++ zz)) x m → (n : Stack) × (m ≡ n ++ zz) × Takes (y ∷ ss) x n
+pub feed-under : (y : Sym Term N) (ss zz m : Stack) (x : Taken) → Takes (y ∷ (ss ++ zz)) x m → (n : Stack) × (m ≡ n ++ zz) × Takes (y ∷ ss) x n
 feed-under (lit c) ss zz m x e = by (fits c (x .tok)) e
   where
     by : (v : Bool) → pick {A = Option (Took Term N)} v (some (record { by = c; left = ss ++ zz })) none ≡ some (record { by = x .by; left = m }) →

@@ -5,3 +5,5 @@ pub mod Moved
 pub mod OneCell
 pub mod Blocks
 pub mod Several
+pub mod Shape
+pub mod Front
