@@ -7,3 +7,4 @@ pub mod Blocks
 pub mod Several
 pub mod Shape
 pub mod Front
+pub mod Span
