@@ -8,3 +8,4 @@ pub mod Several
 pub mod Shape
 pub mod Front
 pub mod Span
+pub mod Carried
