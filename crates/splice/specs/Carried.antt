@@ -138,7 +138,7 @@ incoming d (o ∷ (w ∷ cs)) f =
 takes-as : (ss m : Stack) (x y : Taken) → feed fits alts ss (y .tok) ≡ feed fits alts ss (x .tok) → y .by ≡ x .by → Takes ss x m → Takes ss y m
 takes-as ss m x y e f t = e ∙ (t ∙ ap (λ (c : Term). some (record { by = c; left = m })) (sym f))
 
-fed-below : (d : Bool) (cs : List Taken) → Fed (cellTail d) cs [] → Fed (cellTail d ++ non (more d) ∷ []) cs (non (more d) ∷ [])
+pub fed-below : (d : Bool) (cs : List Taken) → Fed (cellTail d) cs [] → Fed (cellTail d ++ non (more d) ∷ []) cs (non (more d) ∷ [])
 fed-below d cs f = below fits alts (toks cs) (cellTail d) (non (more d) ∷ []) _ f
 
 -- THE NEW FILE'S TOKENS, taken

@@ -52,7 +52,7 @@ pub each-right : {A : Type 0} (P : A → Type 0) (l m : List A) → Each P (l ++
 each-right P [] m h = h
 each-right P (a ∷ l) m (x, h) = each-right P l m h
 
-at-term : (x : Taken) (p : Term) (b : Book) → x .by ≡ p → tells b (x ∷ []) ≡ judge b p (x .tok) then (λ y. fine y)
+pub at-term : (x : Taken) (p : Term) (b : Book) → x .by ≡ p → tells b (x ∷ []) ≡ judge b p (x .tok) then (λ y. fine y)
 unfolding judges
 at-term x p b e = rw (← e)
 

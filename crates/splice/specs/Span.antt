@@ -175,7 +175,7 @@ fed-end : (ss l : Stack) → Fed ss [] l → ss ≡ l
 unfolding feeds
 fed-end ss l e = ap (λ (r : Row Term N). r .left) (some-inj e)
 
-no-cell-word : (o : Taken) (hs : List Taken) → o .by ≡ opens → length (cellWords (hs ++ o ∷ [])) ≡ length (cellWords hs)
+pub no-cell-word : (o : Taken) (hs : List Taken) → o .by ≡ opens → length (cellWords (hs ++ o ∷ [])) ≡ length (cellWords hs)
 no-cell-word o hs e =
     ap length (those-append opensCell hs (o ∷ [])) ∙ rw e (ap length (append-nil (cellWords hs)))
 
@@ -373,7 +373,7 @@ stops-append : (l m : List Placed) → stops (l ++ m) ≡ stops l ++ stops m
 stops-append [] m = refl
 stops-append (t ∷ l) m = ap (λ (x : List ℕ). t .end ∷ x) (stops-append l m)
 
-starts-length : (l : List Placed) → length (starts l) ≡ length l
+pub starts-length : (l : List Placed) → length (starts l) ≡ length l
 starts-length [] = refl
 starts-length (t ∷ l) = ap suc (starts-length l)
 
