@@ -106,7 +106,7 @@ pub record Incoming (d : Bool) (ys : List Taken) : Type 0 where
   pub opens' : fits opens (o .tok) ≡ true
   pub word : fits (key 53 ‼ cell) (w .tok) ≡ true
 
-lit-taken : (c : Term) (ss m : Stack) (x : Taken) → Takes (lit c ∷ ss) x m → (x .by ≡ c) × (m ≡ ss) × (fits c (x .tok) ≡ true)
+pub lit-taken : (c : Term) (ss m : Stack) (x : Taken) → Takes (lit c ∷ ss) x m → (x .by ≡ c) × (m ≡ ss) × (fits c (x .tok) ≡ true)
 lit-taken c ss m x e = by (fits c (x .tok)) refl e
   where
     by : (v : Bool) → fits c (x .tok) ≡ v → pick {A = Option (Took Term N)} v (some (record { by = c; left = ss })) none ≡ some (record { by = x .by; left = m }) →

@@ -9,4 +9,4 @@ pub mod Shape
 pub mod Front
 pub mod Span
 pub mod Carried
-pub mod Splice
+pub mod Parts

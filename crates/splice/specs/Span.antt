@@ -64,6 +64,7 @@ use Rattle.laws.specs.Sides.{Whole, aFile, aCell}
 use Rattle.laws.specs.Taken.{Taken, terms, toks, tells, opensCell, those, cellWords}
 use Rattle.laws.specs.Behind.{Fed, fed-uncons, fed-split, fed-append, tells-append, then-fine}
 use Rattle.laws.specs.Log.{starts}
+use Rattle.splice.specs.Swap.{swapped}
 use Rattle.splice.specs.Phases.{inNote, inAct, inMoves, inCell, in-cell}
 use Rattle.splice.specs.OneCell.{Block}
 use Rattle.splice.specs.Blocks.{Takes, fed-cons, fed-something, behind-keyword, cell-ends}
@@ -123,6 +124,11 @@ cellFrom k xs = getD (starts (cellOpens xs)) (k - 1) 0
 
 unfoldable pub cellTo : ℕ → List Taken → ℕ
 cellTo k xs = getD (stops (cellCloses xs)) (k - 1) 0
+
+-- THE NEW FILE: 'the new file takes its bytes from ( to )'. The bytes before the cell number k, those of the incoming cell, and those behind the
+-- old one; both texts' tokens are taken so.
+abbrev pub newFile : List ℕ → List Taken → ℕ → List ℕ → List Taken → List ℕ
+newFile s xs k t ys = swapped s (cellFrom k xs) (cellTo k xs) t (cellFrom 1 ys) (cellTo 1 ys)
 
 -- the n-th cell's keyword, counted from 0
 nth-cell : (n : ℕ) (xs : List Taken) → n < length (cellWords xs) →
