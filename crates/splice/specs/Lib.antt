@@ -10,3 +10,4 @@ pub mod Front
 pub mod Span
 pub mod Carried
 pub mod Parts
+pub mod Splice

@@ -1,0 +1,212 @@
+-- SPLICE: the new file's reading. It has the old file's cells and entries, with the incoming cell and its entries in place of those of the
+-- cell number k, and places moved: a place of the part before stays; one of the incoming text, from its '(' on, moves to where the old cell's
+-- '(' stood; one of the part behind moves by the difference in length. The header's texts, the divider and the time scale are the old file's.
+-- Assumes nothing.
+use mathlib.Core.Path.{_≡_, refl, sym, ap, subst, _∙_}
+use mathlib.Core.Bool.{Bool, true, false}
+use mathlib.Core.List.{List, [], _∷_, _++_, map, append-nil, append-assoc}
+use Prim.Native.Nat.{ℕ, zero, suc, _+_, _-_, _≤_, _<_}
+use native.Mathlib.Omega.{arith}
+use lib.ListN.{length, getD, length-append}
+use lib.Seq.{append-snoc}
+use Rattle.tokens.specs.Stream.{Placed, stream}
+use Rattle.grammar.specs.declared.Cell.{Cell}
+use Rattle.grammar.specs.Machine.{fine}
+use Rattle.grammar.specs.Grammar.{file, oneCell}
+use Rattle.grammar.specs.Meaning.{Item, Log, Book, tidy}
+use Rattle.grammar.specs.Reading.{At, runs}
+use Rattle.grammar.specs.Outcome.{Stack, textLimit, readFile, readCell}
+use Rattle.laws.specs.Taken.{asFile, asCell, starting, file-is, Taken, toks, tells, opensCell, opensEntry, cellWords, entryWords}
+use Rattle.laws.specs.Behind.{Fed, fed, reaches}
+use Rattle.laws.specs.Exactly.{Follows, Says, read-says, cell-says, whole}
+use Rattle.sound.specs.Sound.{Each, total, read-sound}
+use Rattle.splice.specs.Moved.{moveCell, moveItem, moveTaken}
+use Rattle.splice.specs.OneCell.{Stands}
+use Rattle.splice.specs.Several.{count-moved}
+use Rattle.splice.specs.Span.{cellFrom, cellTo, newFile, CellAt, cell-at, Tail, tail-of}
+use Rattle.splice.specs.Carried.{Incoming, incoming, newTaken, new-carried}
+use Rattle.splice.specs.Parts.{
+  Old,
+  old,
+  Sizes,
+  sizes,
+  old-keeps,
+  old-entries,
+  entriesAt,
+  NewRun,
+  new-run,
+  those-sum,
+  block-cells,
+  block-entries,
+  total-append,
+  N,
+  q',
+  ns,
+  new-tokens,
+  from1,
+  to1,
+  from2,
+  to2,
+  same-file,
+  old-stands,
+  new-stands,
+}
+
+-- what the file st, the incoming text st2 and the new file st' list, where the file's cell number k stands from p to q and the incoming cell from
+-- p' to q'
+pub record Spliced (k p q p' q' : ℕ) (st st2 st' : At) : Type 0 where
+  pub front : List Cell
+  pub outgoing : Cell
+  pub behind : List Cell
+  pub frontItems : List Item
+  pub outItems : List Item
+  pub behindItems : List Item
+  pub incoming : Cell
+  -- the old file's cells and entries, in three parts; k - 1 cells stand before
+  pub cells : st .book .log .cells ≡ front ++ outgoing ∷ behind
+  pub items : st .book .log .items ≡ frontItems ++ (outItems ++ behindItems)
+  pub number : length front + 1 ≡ k
+  pub frontCount : total front ≡ length frontItems
+  pub outCount : outgoing .entries ≡ length outItems
+  pub behindCount : total behind ≡ length behindItems
+  -- the incoming text has one cell
+  pub one : st2 .book .log .cells ≡ incoming ∷ []
+  -- the new file's cells and entries, and nothing in hand
+  pub log : st' .book .log ≡ tidy (st .book .log .texts) (front ++ moveCell p' p incoming ∷ map (moveCell q (p + (q' - p'))) behind)
+      (frontItems ++ (map (moveItem p' p) (st2 .book .log .items) ++ map (moveItem q (p + (q' - p'))) behindItems))
+  pub slash : st' .book .slash ≡ st .book .slash
+  pub unit : st' .book .unit ≡ st .book .unit
+  pub stack : st' .stack ≡ []
+
+regrouped : (f : Item → Item) (ts ts' : List ℕ) (a : List Cell) (x : Cell) (b : List Cell) (c d d' e : List Item) (l : Log) → ts ≡ ts' → d ≡ d' →
+    l ≡ tidy ts ((a ++ x ∷ []) ++ b) ((c ++ map f d) ++ e) → l ≡ tidy ts' (a ++ x ∷ b) (c ++ (map f d' ++ e))
+regrouped f ts ts' a x b c d d' e l p q h = h ∙ rw (append-snoc a x b, append-assoc c (map f d) e, p, q)
+
+-- from the runs of the parts
+spliced-by : (n p q p' q' cr ir : ℕ) (b b1 : Book) (hs ys zs : List Taken) (st st2 : At) (R : NewRun b (st .book) b1 (st2 .book) hs ys zs p q p' (p + (q' - p')) cr ir) →
+    length (b1 .log .cells) ≡ n → total (st .book .log .cells) ≡ length (st .book .log .items) → st .book .slash ≡ b1 .slash → st .book .unit ≡ b1 .unit →
+    Spliced (suc n) p q p' q' st st2 (record { stack = []; book = R .e' })
+unfolding total
+spliced-by n p q p' q' cr ir b b1 hs ys zs st st2 R c t s u =
+    let x : st .book .log .cells ≡ b1 .log .cells ++ R .outgoing ∷ R .behindCells =
+        ap (λ (l : Log). l .cells) (R .oldLog) ∙ append-snoc (b1 .log .cells) (R .outgoing) (R .behindCells) in
+    let y : st .book .log .items ≡ b1 .log .items ++ (R .outItems ++ R .behindItems) =
+        ap (λ (l : Log). l .items) (R .oldLog) ∙ append-assoc (b1 .log .items) (R .outItems) (R .behindItems) in
+    let v = ap total x ∙ total-append (b1 .log .cells) (R .outgoing ∷ R .behindCells) in
+    let w = ap length y ∙ (length-append (b1 .log .items) (R .outItems ++ R .behindItems)
+        ∙ ap (λ (z : ℕ). length (b1 .log .items) + z) (length-append (R .outItems) (R .behindItems))) in
+    let o = R .outCount in
+    let h = R .behindCount in
+    record {
+      front = b1 .log .cells;
+      outgoing = R .outgoing;
+      behind = R .behindCells;
+      frontItems = b1 .log .items;
+      outItems = R .outItems;
+      behindItems = R .behindItems;
+      incoming = R .new;
+      cells = x;
+      items = y;
+      number = omega arith;
+      frontCount = omega arith;
+      outCount = o;
+      behindCount = h;
+      one = ap (λ (l : Log). l .cells) (R .inLog);
+      log = regrouped (moveItem p' p) (b1 .log .texts) (st .book .log .texts) (b1 .log .cells) (moveCell p' p (R .new)) _ (b1 .log .items) (R .newItems)
+          (st2 .book .log .items) _ (R .e' .log) (sym (ap (λ (l : Log). l .texts) (R .oldLog))) (sym (ap (λ (l : Log). l .items) (R .inLog))) (R .newLog);
+      slash = R .slash' ∙ sym s;
+      unit = R .unit' ∙ sym u;
+      stack = refl;
+    }
+
+-- from the parts of both texts
+module _ (cr ir : ℕ) (s : List ℕ) (st : At) (xs : List Taken) (f : Follows (asFile cr ir) s xs) (S : Says (asFile cr ir) xs st)
+    (slash : Bool) (unit cr2 ir2 : ℕ) (t : List ℕ) (st2 : At) (ys : List Taken) (f2 : Follows (asCell slash unit cr2 ir2) t ys)
+    (S2 : Says (asCell slash unit cr2 ir2) ys st2) (n : ℕ) (C : CellAt xs n (starting (asFile cr ir) .book))
+    (O : Old xs n (starting (asFile cr ir) .book) (st .book) C) (I : Incoming (C .d) ys) (T : Tail (C .cs)) (U : Tail (I .cs)) where
+  abbrev b : Book
+  b = starting (asFile cr ir) .book
+
+  abbrev p : ℕ
+  p = C .o .tok .start
+
+  abbrev q : ℕ
+  q = T .x .tok .end
+
+  abbrev p2 : ℕ
+  p2 = I .o .tok .start
+
+  abbrev q2 : ℕ
+  q2 = U .x .tok .end
+
+  abbrev new : List Taken
+  new = newTaken (C .hs) ys (C .zs) p2 p q (p + (q2 - p2))
+
+  -- as many cells as before, and entries
+  new-cells : length (cellWords new) ≡ length (st .book .log .cells)
+  new-cells =
+      let a = those-sum opensCell (C .hs) (map (moveTaken p2 p) ys ++ map (moveTaken q (p + (q2 - p2))) (C .zs)) in
+      let c = those-sum opensCell (map (moveTaken p2 p) ys) (map (moveTaken q (p + (q2 - p2))) (C .zs)) in
+      let d = count-moved opensCell p2 p ys in
+      let e = count-moved opensCell q (p + (q2 - p2)) (C .zs) in
+      let g = ap (λ (z : List Taken). length (cellWords z)) (I .split) ∙ block-cells (C .d) (I .o) (I .w) (I .cs) (I .block) in
+      let h = U .words in
+      let i = S .cellCount ∙ (ap (λ (z : List Taken). length (cellWords z)) (C .split) ∙ those-sum opensCell (C .hs) (C .o ∷ C .w ∷ (C .cs ++ C .zs))) in
+      let j = those-sum opensCell (C .o ∷ C .w ∷ C .cs) (C .zs) in
+      let k = block-cells (C .d) (C .o) (C .w) (C .cs) (C .block) in
+      let l = T .words in
+      omega arith
+
+  new-entries : length (entryWords new) + length (entryWords (C .cs)) ≡ length (st .book .log .items) + length (st2 .book .log .items)
+  new-entries =
+      let a = those-sum opensEntry (C .hs) (map (moveTaken p2 p) ys ++ map (moveTaken q (p + (q2 - p2))) (C .zs)) in
+      let c = those-sum opensEntry (map (moveTaken p2 p) ys) (map (moveTaken q (p + (q2 - p2))) (C .zs)) in
+      let d = count-moved opensEntry p2 p ys in
+      let e = count-moved opensEntry q (p + (q2 - p2)) (C .zs) in
+      let h = S2 .entryCount in
+      let i = S .entryCount ∙ (ap (λ (z : List Taken). length (entryWords z)) (C .split) ∙ those-sum opensEntry (C .hs) (C .o ∷ C .w ∷ (C .cs ++ C .zs))) in
+      let j = those-sum opensEntry (C .o ∷ C .w ∷ C .cs) (C .zs) in
+      let k = block-entries (C .d) (C .o) (C .w) (C .cs) (C .block) in
+      omega arith
+
+  old-few : length (entryWords (C .cs)) ≤ length (st .book .log .items)
+  old-few =
+      let i = S .entryCount ∙ (ap (λ (z : List Taken). length (entryWords z)) (C .split) ∙ those-sum opensEntry (C .hs) (C .o ∷ C .w ∷ (C .cs ++ C .zs))) in
+      let j = those-sum opensEntry (C .o ∷ C .w ∷ C .cs) (C .zs) in
+      let k = block-entries (C .d) (C .o) (C .w) (C .cs) (C .block) in
+      omega arith
+
+  -- the new file is read
+  abbrev Law : List ℕ → ℕ → ℕ → ℕ → ℕ → ℕ → ℕ → Type 0
+  Law s cr' ir' p q p2 q2 = (st' : At) × (readFile cr' ir' s ≡ fine st') × Spliced (suc n) p q p2 q2 st st2 st'
+
+  by-run : (cr' ir' : ℕ) → length (N s t xs ys n b C I T U) ≤ textLimit → st .book .slash ≡ C .d → st .book .unit ≡ O .b1 .unit →
+      total (st .book .log .cells) ≡ length (st .book .log .items) →
+      NewRun b (st .book) (O .b1) (st2 .book) (C .hs) ys (C .zs) p q p2 (p + (q2 - p2)) cr' ir' → Law (N s t xs ys n b C I T U) cr' ir' p q p2 q2
+  by-run cr' ir' h sl un tot R =
+      let (u, v) = new-tokens s t xs ys n b C I T U (sym (f .tokens)) (sym (f2 .tokens)) in
+      (record { stack = []; book = R .e' },
+      file-is cr' ir' (N s t xs ys n b C I T U)
+      ∙ whole (asFile cr' ir') (N s t xs ys n b C I T U) (R .e') h
+      (ap (runs (starting (asFile cr' ir'))) u ∙ reaches (asFile cr' ir') new [] (R .e') (new-carried xs n b C ys I p2 p q (p + (q2 - p2))) (R .told'))
+      (v ∙ f .ended),
+      spliced-by n p q p2 q2 cr' ir' b (O .b1) (C .hs) ys (C .zs) st st2 R (sizes (asFile cr ir) xs n (st .book) C O .cells1 ∙ C .number) tot
+      (sl ∙ sym (O .slash1)) un)
+
+  by-parts : (cr' ir' : ℕ) → unit ≡ st .book .unit → length (newFile s xs (suc n) t ys) ≤ textLimit → length (st .book .log .cells) ≤ cr' →
+      length (st .book .log .items) - entriesAt n st + length (st2 .book .log .items) ≤ ir' → total (st .book .log .cells) ≡ length (st .book .log .items) →
+      Law (newFile s xs (suc n) t ys) cr' ir' (cellFrom (suc n) xs) (cellTo (suc n) xs) (cellFrom 1 ys) (cellTo 1 ys)
+  by-parts cr' ir' u h rc ri tot =
+      let (s1, s2, s3) = old-stands s xs n b C T (sym (f .tokens)) in
+      let (sl, un) = old-keeps xs n b (st .book) C O s1 s2 in
+      let x = old-entries (asFile cr ir) xs n (st .book) C O s1 s2 in
+      let y = old-few in
+      let w = new-entries in
+      let h' : length (N s t xs ys n b C I T U) ≤ textLimit = subst (λ (z : List ℕ). length z ≤ textLimit) (same-file s t xs ys n b C I T U) h in
+      let c : length (cellWords new) ≤ cr' = omega (arith, new-cells) in
+      let i : length (entryWords new) ≤ ir' = omega arith in
+      let R = new-run xs n b (st .book) C O ys I (starting (asCell slash unit cr2 ir2) .book) (st2 .book) p q p2 (p + (q2 - p2)) cr' ir' s1
+          (new-stands s t xs ys n b C I T U (sym (f2 .tokens))) s3 refl (sym un ∙ sym u) (S2 .told) c i in
+      let L = by-run cr' ir' h' sl un tot R in
+      subst (λ (z : List ℕ). Law z cr' ir' (cellFrom (suc n) xs) (cellTo (suc n) xs) (cellFrom 1 ys) (cellTo 1 ys)) (sym (same-file s t xs ys n b C I T U))
+      (rw (from1 s t xs ys n b C I T U, to1 s t xs ys n b C I T U, from2 s t xs ys n b C I T U, to2 s t xs ys n b C I T U) L)
