@@ -326,14 +326,14 @@ old-entries a xs n e C O s s' = by (old-cell xs n (starting a .book) e C O s)
     by A =
         let B = behind (C .zs) (O .b2) e (O .t3) in
         let M = cells-add 0 0 _ _ (C .d) (C .zs) (cells-follow (C .d) (C .zs) (C .rest)) _ _ _ _ (O .b2) (O .b2) e s' (A .done .log) (A .done .log) refl
-            (B .cellsFit) (B .entriesFit) (O .t3) in
+        (B .cellsFit) (B .entriesFit) (O .t3) in
         let Z = sizes a xs n e C O in
         let z1 = Z .items1 in
         let z2 = Z .items2 in
         let y : length (O .b2 .log .items) ≡ length (O .b1 .log .items) + length (A .done .new) =
-            ap (λ (l : Log). length (l .items)) (A .done .log) ∙ length-append (O .b1 .log .items) (A .done .new) in
+        ap (λ (l : Log). length (l .items)) (A .done .log) ∙ length-append (O .b1 .log .items) (A .done .new) in
         let x : e .log .cells ≡ O .b1 .log .cells ++ A .done .cell ∷ M .cells =
-            ap (λ (l : Log). l .cells) (M .log) ∙ append-snoc (O .b1 .log .cells) (A .done .cell) (M .cells) in
+        ap (λ (l : Log). l .cells) (M .log) ∙ append-snoc (O .b1 .log .cells) (A .done .cell) (M .cells) in
         ap (λ (l : List Cell). getD (entryCounts l) n 0) x
         ∙ (count-at (O .b1 .log .cells) (A .done .cell) (M .cells) n (Z .cells1 ∙ C .number) ∙ (A .done .count ∙ omega arith))
 
@@ -350,7 +350,7 @@ closer-kind t e = eqb-true (t .kind) 3 (both-true (eqb (t .kind) 3) true e .0)
 last-kind : (d : Bool) (cs : List Taken) → Fed (cellTail d) cs [] → (T : Tail cs) → T .x .tok .kind ≡ 3
 last-kind d cs f T =
     let (g, _) = each-right (λ x. fits (x .by) (x .tok) ≡ true) (T .ms) (T .x ∷ [])
-        (subst (λ (z : List Taken). Each (λ x. fits (x .by) (x .tok) ≡ true) z) (T .split) (each-fits cs (cellTail d) [] f)) in
+    (subst (λ (z : List Taken). Each (λ x. fits (x .by) (x .tok) ≡ true) z) (T .split) (each-fits cs (cellTail d) [] f)) in
     closer-kind (T .x .tok) (rw (T .last) at g)
 
 file-begins : (hs : List Taken) (l : Stack) → Fed file hs l → Begins hs
@@ -389,8 +389,8 @@ pub old-stands : (s : List ℕ) (xs : List Taken) (n : ℕ) (b : Book) (C : Cell
 old-stands s xs n b C T e =
     let (_, h) = behind-token s (C .hs) (C .o) (C .w ∷ (C .cs ++ C .zs)) 0 (e ∙ ap toks (C .split)) (omega arith) in
     let k : xs ≡ (C .hs ++ (C .o ∷ C .w ∷ T .ms)) ++ T .x ∷ C .zs =
-        C .split ∙ (ap (λ (z : List Taken). C .hs ++ (C .o ∷ C .w ∷ z)) (ap (λ (z : List Taken). z ++ C .zs) (T .split) ∙ append-assoc (T .ms) (T .x ∷ []) (C .zs))
-        ∙ sym (append-assoc (C .hs) (C .o ∷ C .w ∷ T .ms) (T .x ∷ C .zs))) in
+    C .split ∙ (ap (λ (z : List Taken). C .hs ++ (C .o ∷ C .w ∷ z)) (ap (λ (z : List Taken). z ++ C .zs) (T .split) ∙ append-assoc (T .ms) (T .x ∷ []) (C .zs))
+    ∙ sym (append-assoc (C .hs) (C .o ∷ C .w ∷ T .ms) (T .x ∷ C .zs))) in
     let (_, i) = behind-token s (C .hs ++ (C .o ∷ C .w ∷ T .ms)) (T .x) (C .zs) (T .x .tok .end) (e ∙ ap toks k) (le-refl (T .x .tok .end)) in
     (each-left (Stands 0) (C .w ∷ C .cs) (C .zs) h, each-right (Stands 0) (C .w ∷ C .cs) (C .zs) h, i)
 
@@ -408,12 +408,14 @@ module _ (s t : List ℕ) (xs ys : List Taken) (n : ℕ) (b : Book) (C : CellAt 
   pub new-tokens : stream s 0 .toks ≡ toks xs → stream t 0 .toks ≡ toks ys → (stream N 0 .toks ≡ toks ns) × (stream N 0 .number ≡ stream s 0 .number)
   new-tokens e f =
       let (u, v) = tokens-swapped s t (toks (C .hs)) (toks (C .w ∷ T .ms)) (toks (C .zs)) [] (toks (I .w ∷ U .ms)) [] (C .o .tok) (T .x .tok) (I .o .tok) (U .x .tok)
-          (e ∙ (ap toks (C .split) ∙ apart (C .hs) (C .o) (C .w) (C .cs) (C .zs) T))
-          (opener-kind (C .o .tok) (rw (C .block .opener) at (taker-fits (C .l) (C .o .tok) _ (C .opener)))) (last-kind (C .d) (C .cs) (C .block .rest) T)
-          (f ∙ all-of (C .d) ys I U) (opener-kind (I .o .tok) (I .opens')) (last-kind (C .d) (I .cs) (I .block .rest) U) in
-      (u ∙ sym (toks-new (C .hs) ys (C .zs) (I .o .tok .start) (C .o .tok .start) (T .x .tok .end) q'
-      ∙ ap (λ (l : List Placed). toks (C .hs) ++ (map (moveTok (I .o .tok .start) (C .o .tok .start)) l ++ map (moveTok (T .x .tok .end) q') (toks (C .zs))))
-      (all-of (C .d) ys I U)), v)
+      (e ∙ (ap toks (C .split) ∙ apart (C .hs) (C .o) (C .w) (C .cs) (C .zs) T))
+      (opener-kind (C .o .tok) (rw (C .block .opener) at (taker-fits (C .l) (C .o .tok) _ (C .opener)))) (last-kind (C .d) (C .cs) (C .block .rest) T)
+      (f ∙ all-of (C .d) ys I U) (opener-kind (I .o .tok) (I .opens')) (last-kind (C .d) (I .cs) (I .block .rest) U) in (
+        u ∙ sym (toks-new (C .hs) ys (C .zs) (I .o .tok .start) (C .o .tok .start) (T .x .tok .end) q'
+            ∙ ap (λ (l : List Placed). toks (C .hs) ++ (map (moveTok (I .o .tok .start) (C .o .tok .start)) l ++ map (moveTok (T .x .tok .end) q') (toks (C .zs))))
+            (all-of (C .d) ys I U)),
+        v,
+      )
 
   -- the places of both cells
   pub from1 : cellFrom (suc n) xs ≡ C .o .tok .start

@@ -13,7 +13,7 @@ use lib.ListN.{length, getD, length-append}
 use lib.Seq.{getD-at}
 use borrow.Author.Tests.{eqb-true}
 use Rattle.classes.specs.Choice.{pick}
-use Rattle.tokens.specs.Stream.{Placed}
+use Rattle.tokens.specs.Stream.{Placed, stream}
 use Rattle.grammar.specs.Ll.{Sym, lit, non, Row, feeds, none≢some}
 use Rattle.grammar.specs.Machine.{Res, fine, _then_, fine-inj, judges}
 use Rattle.grammar.specs.Grammar.{
@@ -61,9 +61,10 @@ use Rattle.grammar.specs.Outcome.{Stack}
 use Rattle.laws.specs.Walk.{walk, through, along-inv, kept-if, some-inj}
 use Rattle.laws.specs.Phases.{leaves, turns, proper, moves, every, from, to, in-turn}
 use Rattle.laws.specs.Sides.{Whole, aFile, aCell}
-use Rattle.laws.specs.Taken.{Taken, terms, toks, tells, opensCell, those, cellWords}
-use Rattle.laws.specs.Behind.{Fed, fed-uncons, fed-split, fed-append, tells-append, then-fine}
+use Rattle.laws.specs.Taken.{As, Taken, terms, toks, tells, opensCell, those, cellWords}
+use Rattle.laws.specs.Behind.{Fed, fed, fed-uncons, fed-split, fed-append, tells-append, then-fine}
 use Rattle.laws.specs.Log.{starts}
+use Rattle.laws.specs.Exactly.{Follows}
 use Rattle.splice.specs.Swap.{swapped}
 use Rattle.splice.specs.Phases.{inNote, inAct, inMoves, inCell, in-cell}
 use Rattle.splice.specs.OneCell.{Block}
@@ -129,6 +130,34 @@ cellTo k xs = getD (stops (cellCloses xs)) (k - 1) 0
 -- old one; both texts' tokens are taken so.
 abbrev pub newFile : List ℕ → List Taken → ℕ → List ℕ → List Taken → List ℕ
 newFile s xs k t ys = swapped s (cellFrom k xs) (cellTo k xs) t (cellFrom 1 ys) (cellTo 1 ys)
+
+-- THE TOKENS of a text, each with the terminal that takes it where the text is read as ss says (none where it is not carried)
+abbrev pub pairUp : List Term → List Placed → List Taken
+pairUp [] ts = []
+pairUp (c ∷ cs) [] = []
+pairUp (c ∷ cs) (t ∷ ts) = record { by = c; tok = t } ∷ pairUp cs ts
+
+abbrev pub takenBy : Option (Row Term N) → List Placed → List Taken
+takenBy none ts = []
+takenBy (some r) ts = pairUp (r .labels) ts
+
+unfoldable pub takenOf : Stack → List ℕ → List Taken
+takenOf ss s = takenBy (feeds fits alts ss (stream s 0 .toks)) (stream s 0 .toks)
+
+pair-up : (xs : List Taken) → pairUp (terms xs) (toks xs) ≡ xs
+pair-up [] = refl
+pair-up (x ∷ xs) = ap (λ (l : List Taken). x ∷ l) (pair-up xs)
+
+-- these are the tokens of which the laws speak
+pub taken-is : (a : As) (s : List ℕ) (xs : List Taken) → Follows a s xs → takenOf (a .start) s ≡ xs
+unfolding takenOf
+taken-is a s xs f =
+    ap (λ (ts : List Placed). takenBy (feeds fits alts (a .start) ts) ts) (sym (f .tokens))
+    ∙ (ap (λ (o : Option (Row Term N)). takenBy o (toks xs)) (fed (a .start) xs (f .carried)) ∙ pair-up xs)
+
+-- THE NEW FILE, from the bytes alone: a file, the number of one of its cells, the file's divider and the incoming text
+unfoldable pub newFileOf : List ℕ → ℕ → Bool → List ℕ → List ℕ
+newFileOf s k slash t = newFile s (takenOf file s) k t (takenOf (oneCell slash) t)
 
 -- the n-th cell's keyword, counted from 0
 nth-cell : (n : ℕ) (xs : List Taken) → n < length (cellWords xs) →

@@ -18,12 +18,12 @@ use Rattle.grammar.specs.Reading.{At, runs}
 use Rattle.grammar.specs.Outcome.{Stack, textLimit, readFile, readCell}
 use Rattle.laws.specs.Taken.{asFile, asCell, starting, file-is, Taken, toks, tells, opensCell, opensEntry, cellWords, entryWords}
 use Rattle.laws.specs.Behind.{Fed, fed, reaches}
-use Rattle.laws.specs.Exactly.{Follows, Says, read-says, cell-says, whole}
+use Rattle.laws.specs.Exactly.{Follows, Says, read-exactly, cell-exactly, read-says, cell-says, whole}
 use Rattle.sound.specs.Sound.{Each, total, read-sound}
 use Rattle.splice.specs.Moved.{moveCell, moveItem, moveTaken}
 use Rattle.splice.specs.OneCell.{Stands}
 use Rattle.splice.specs.Several.{count-moved}
-use Rattle.splice.specs.Span.{cellFrom, cellTo, newFile, CellAt, cell-at, Tail, tail-of}
+use Rattle.splice.specs.Span.{cellFrom, cellTo, newFile, takenOf, taken-is, newFileOf, CellAt, cell-at, Tail, tail-of}
 use Rattle.splice.specs.Carried.{Incoming, incoming, newTaken, new-carried}
 use Rattle.splice.specs.Parts.{
   Old,
@@ -89,12 +89,12 @@ spliced-by : (n p q p' q' cr ir : ℕ) (b b1 : Book) (hs ys zs : List Taken) (st
 unfolding total
 spliced-by n p q p' q' cr ir b b1 hs ys zs st st2 R c t s u =
     let x : st .book .log .cells ≡ b1 .log .cells ++ R .outgoing ∷ R .behindCells =
-        ap (λ (l : Log). l .cells) (R .oldLog) ∙ append-snoc (b1 .log .cells) (R .outgoing) (R .behindCells) in
+    ap (λ (l : Log). l .cells) (R .oldLog) ∙ append-snoc (b1 .log .cells) (R .outgoing) (R .behindCells) in
     let y : st .book .log .items ≡ b1 .log .items ++ (R .outItems ++ R .behindItems) =
-        ap (λ (l : Log). l .items) (R .oldLog) ∙ append-assoc (b1 .log .items) (R .outItems) (R .behindItems) in
+    ap (λ (l : Log). l .items) (R .oldLog) ∙ append-assoc (b1 .log .items) (R .outItems) (R .behindItems) in
     let v = ap total x ∙ total-append (b1 .log .cells) (R .outgoing ∷ R .behindCells) in
     let w = ap length y ∙ (length-append (b1 .log .items) (R .outItems ++ R .behindItems)
-        ∙ ap (λ (z : ℕ). length (b1 .log .items) + z) (length-append (R .outItems) (R .behindItems))) in
+    ∙ ap (λ (z : ℕ). length (b1 .log .items) + z) (length-append (R .outItems) (R .behindItems))) in
     let o = R .outCount in
     let h = R .behindCount in
     record {
@@ -184,14 +184,15 @@ module _ (cr ir : ℕ) (s : List ℕ) (st : At) (xs : List Taken) (f : Follows (
       total (st .book .log .cells) ≡ length (st .book .log .items) →
       NewRun b (st .book) (O .b1) (st2 .book) (C .hs) ys (C .zs) p q p2 (p + (q2 - p2)) cr' ir' → Law (N s t xs ys n b C I T U) cr' ir' p q p2 q2
   by-run cr' ir' h sl un tot R =
-      let (u, v) = new-tokens s t xs ys n b C I T U (sym (f .tokens)) (sym (f2 .tokens)) in
-      (record { stack = []; book = R .e' },
-      file-is cr' ir' (N s t xs ys n b C I T U)
-      ∙ whole (asFile cr' ir') (N s t xs ys n b C I T U) (R .e') h
-      (ap (runs (starting (asFile cr' ir'))) u ∙ reaches (asFile cr' ir') new [] (R .e') (new-carried xs n b C ys I p2 p q (p + (q2 - p2))) (R .told'))
-      (v ∙ f .ended),
-      spliced-by n p q p2 q2 cr' ir' b (O .b1) (C .hs) ys (C .zs) st st2 R (sizes (asFile cr ir) xs n (st .book) C O .cells1 ∙ C .number) tot
-      (sl ∙ sym (O .slash1)) un)
+      let (u, v) = new-tokens s t xs ys n b C I T U (sym (f .tokens)) (sym (f2 .tokens)) in (
+        record { stack = []; book = R .e' },
+        file-is cr' ir' (N s t xs ys n b C I T U)
+            ∙ whole (asFile cr' ir') (N s t xs ys n b C I T U) (R .e') h
+            (ap (runs (starting (asFile cr' ir'))) u ∙ reaches (asFile cr' ir') new [] (R .e') (new-carried xs n b C ys I p2 p q (p + (q2 - p2))) (R .told'))
+            (v ∙ f .ended),
+        spliced-by n p q p2 q2 cr' ir' b (O .b1) (C .hs) ys (C .zs) st st2 R (sizes (asFile cr ir) xs n (st .book) C O .cells1 ∙ C .number) tot
+            (sl ∙ sym (O .slash1)) un,
+      )
 
   by-parts : (cr' ir' : ℕ) → unit ≡ st .book .unit → length (newFile s xs (suc n) t ys) ≤ textLimit → length (st .book .log .cells) ≤ cr' →
       length (st .book .log .items) - entriesAt n st + length (st2 .book .log .items) ≤ ir' → total (st .book .log .cells) ≡ length (st .book .log .items) →
@@ -206,7 +207,49 @@ module _ (cr ir : ℕ) (s : List ℕ) (st : At) (xs : List Taken) (f : Follows (
       let c : length (cellWords new) ≤ cr' = omega (arith, new-cells) in
       let i : length (entryWords new) ≤ ir' = omega arith in
       let R = new-run xs n b (st .book) C O ys I (starting (asCell slash unit cr2 ir2) .book) (st2 .book) p q p2 (p + (q2 - p2)) cr' ir' s1
-          (new-stands s t xs ys n b C I T U (sym (f2 .tokens))) s3 refl (sym un ∙ sym u) (S2 .told) c i in
+      (new-stands s t xs ys n b C I T U (sym (f2 .tokens))) s3 refl (sym un ∙ sym u) (S2 .told) c i in
       let L = by-run cr' ir' h' sl un tot R in
       subst (λ (z : List ℕ). Law z cr' ir' (cellFrom (suc n) xs) (cellTo (suc n) xs) (cellFrom 1 ys) (cellTo 1 ys)) (sym (same-file s t xs ys n b C I T U))
       (rw (from1 s t xs ys n b C I T U, to1 s t xs ys n b C I T U, from2 s t xs ys n b C I T U, to2 s t xs ys n b C I T U) L)
+
+-- THE LAW, where the tokens of both texts are taken so: if a file is read, k is the number of one of its cells, and a text is read as one cell
+-- with the file's divider and time scale, then the new file is read too, within the limit and with room enough
+pub splice-taken : (cr ir : ℕ) (s : List ℕ) (st : At) (xs : List Taken) (k cr2 ir2 : ℕ) (t : List ℕ) (st2 : At) (ys : List Taken) (cr' ir' : ℕ) →
+    readFile cr ir s ≡ fine st → Follows (asFile cr ir) s xs → 1 ≤ k → k ≤ length (st .book .log .cells) →
+    readCell (st .book .slash) (st .book .unit) cr2 ir2 t ≡ fine st2 → Follows (asCell (st .book .slash) (st .book .unit) cr2 ir2) t ys →
+    length (newFile s xs k t ys) ≤ textLimit → length (st .book .log .cells) ≤ cr' →
+    length (st .book .log .items) - entriesAt (k - 1) st + length (st2 .book .log .items) ≤ ir' →
+    (st' : At) × (readFile cr' ir' (newFile s xs k t ys) ≡ fine st') × Spliced k (cellFrom k xs) (cellTo k xs) (cellFrom 1 ys) (cellTo 1 ys) st st2 st'
+splice-taken cr ir s st xs zero cr2 ir2 t st2 ys cr' ir' e f h k e2 f2 l rc ri = absurd (omega arith)
+splice-taken cr ir s st xs (suc n) cr2 ir2 t st2 ys cr' ir' e f h k e2 f2 l rc ri =
+    let S = read-says cr ir s st xs e f in
+    let S2 = cell-says (st .book .slash) (st .book .unit) cr2 ir2 t st2 ys e2 f2 in
+    let b : Book = starting (asFile cr ir) .book in
+    let few : n < length (cellWords xs) = omega (arith, S .cellCount) in
+    let C = cell-at xs n b (st .book) few refl (fed file xs (f .carried)) (S .told) in
+    let O = old xs n b (st .book) C refl (S .told) in
+    let T = tail-of (C .d) (C .cs) (C .block .rest) in
+    let (s1, s2, _) = old-stands s xs n b C T (sym (f .tokens)) in
+    let (sl, _) = old-keeps xs n b (st .book) C O s1 s2 in
+    let I = incoming (C .d) ys (subst (λ (z : Bool). Fed (oneCell z) ys []) sl (fed (oneCell (st .book .slash)) ys (f2 .carried))) in
+    let U = tail-of (C .d) (I .cs) (I .block .rest) in
+    let m : suc n - 1 ≡ n = omega arith in
+    by-parts cr ir s st xs f S (st .book .slash) (st .book .unit) cr2 ir2 t st2 ys f2 S2 n C O I T U cr' ir' refl l rc
+    (subst (λ (z : ℕ). length (st .book .log .items) - entriesAt z st + length (st2 .book .log .items) ≤ ir') m ri) (read-sound cr ir s st e .entries)
+
+-- SPLICE, from the bytes alone
+pub splice : (cr ir : ℕ) (s : List ℕ) (st : At) (k cr2 ir2 : ℕ) (t : List ℕ) (st2 : At) (cr' ir' : ℕ) →
+    readFile cr ir s ≡ fine st → 1 ≤ k → k ≤ length (st .book .log .cells) → readCell (st .book .slash) (st .book .unit) cr2 ir2 t ≡ fine st2 →
+    length (newFileOf s k (st .book .slash) t) ≤ textLimit → length (st .book .log .cells) ≤ cr' →
+    length (st .book .log .items) - entriesAt (k - 1) st + length (st2 .book .log .items) ≤ ir' →
+    (st' : At) × (readFile cr' ir' (newFileOf s k (st .book .slash) t) ≡ fine st')
+    × Spliced k (cellFrom k (takenOf file s)) (cellTo k (takenOf file s)) (cellFrom 1 (takenOf (oneCell (st .book .slash)) t))
+    (cellTo 1 (takenOf (oneCell (st .book .slash)) t)) st st2 st'
+unfolding newFileOf
+splice cr ir s st k cr2 ir2 t st2 cr' ir' e h i e2 l rc ri =
+    let (xs, f) = read-exactly cr ir s .0 (st, e) in
+    let (ys, f2) = cell-exactly (st .book .slash) (st .book .unit) cr2 ir2 t .0 (st2, e2) in
+    let x = taken-is (asFile cr ir) s xs f in
+    let y = taken-is (asCell (st .book .slash) (st .book .unit) cr2 ir2) t ys f2 in
+    splice-taken cr ir s st (takenOf file s) k cr2 ir2 t st2 (takenOf (oneCell (st .book .slash)) t) cr' ir' e (subst (λ (z : List Taken). Follows (asFile cr ir) s z) (sym x) f) h i e2
+    (subst (λ (z : List Taken). Follows (asCell (st .book .slash) (st .book .unit) cr2 ir2) t z) (sym y) f2) l rc ri
