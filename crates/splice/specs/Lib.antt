@@ -9,5 +9,6 @@ pub mod Shape
 pub mod Front
 pub mod Span
 pub mod Carried
+pub mod Near
 pub mod Parts
 pub mod Splice

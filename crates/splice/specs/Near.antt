@@ -1,0 +1,279 @@
+-- WHERE WHAT WAS READ STANDS: what tokens add to a reading stands where they do; and the bytes there are the same in the new file.
+-- Assumes nothing.
+use mathlib.Core.Path.{_≡_, refl, sym, ap, subst, _∙_}
+use mathlib.Core.Bool.{Bool, true, false}
+use mathlib.Core.List.{List, [], _∷_, _++_, append-nil, append-assoc}
+use mathlib.Core.Logic.{_⊎_, inl, inr, ⊎-elim}
+use Prim.Native.Nat.{ℕ, zero, suc, _+_, _-_, _≤_, _<_}
+use native.Mathlib.Nat.{zero-add}
+use native.Mathlib.Omega.{arith}
+use lib.Dec.{eqb, leb}
+use lib.ListN.{length, take, drop, length-append}
+use borrow.Author.Tests.{leb-true, leb-false, le-leb, lt-leb}
+use Rattle.classes.specs.Choice.{pick}
+use Rattle.tokens.specs.Stream.{Placed, part}
+use Rattle.names.specs.Name.{partOf}
+use Rattle.times.specs.Value.{numberOf}
+use Rattle.times.specs.declared.Number.{Number}
+use Rattle.times.specs.declared.Number.the-variants as number
+use Rattle.grammar.specs.declared.Entry.{Entry}
+use Rattle.grammar.specs.declared.Cell.{Cell}
+use Rattle.grammar.specs.Machine.{Res, fine, bad, _then_, fine-inj, bad≢fine, judges}
+use Rattle.grammar.specs.Grammar.{
+  Cls,
+  Note,
+  skip,
+  heading,
+  type,
+  top,
+  named,
+  any,
+  finish,
+  edged,
+  end,
+  plain,
+  empty,
+  all,
+  whole,
+  close,
+  Act,
+  note,
+  divide,
+  scaled,
+  unity,
+  joined,
+  cell,
+  entry,
+  time,
+}
+use Rattle.grammar.specs.Grammar as G
+use Rattle.grammar.specs.Meaning.{
+  Item,
+  Begun,
+  Log,
+  Book,
+  headOf,
+  headed,
+  celled,
+  cellOf,
+  finished,
+  entered,
+  itemOf,
+  edgePut,
+  endPut,
+  noted,
+  overlong,
+  timed,
+  judge,
+  judgeBy,
+}
+use Rattle.laws.specs.Taken.{Taken, tells}
+use Rattle.laws.specs.Judged.{pick-fine}
+use Rattle.laws.specs.Behind.{then-fine}
+use Rattle.sound.specs.Sound.{Each}
+use Rattle.splice.specs.Along.{part-front, part-behind}
+use Rattle.splice.specs.Moved.{moveAt, move-none, move-some, moveCell, moveItem}
+
+-- a part that stands between lo and hi, or nowhere (from 0 to 0)
+abbrev pub Near : ℕ → ℕ → ℕ → ℕ → Type 0
+Near lo hi b e = ((b ≡ 0) × (e ≡ 0)) ⊎ ((lo ≤ b) × (b ≤ hi) × (lo ≤ e) × (e ≤ hi) × (1 ≤ b) × (1 ≤ e))
+
+pub record NearCell (lo hi : ℕ) (c : Cell) : Type 0 where
+  pub type : Near lo hi (c .typefrom) (c .typeto)
+  pub path : Near lo hi (c .pathfrom) (c .pathto)
+
+pub record NearEntry (lo hi : ℕ) (h : Entry) : Type 0 where
+  pub first : Near lo hi (h .from1) (h .to1)
+  pub second : Near lo hi (h .from2) (h .to2)
+
+abbrev pub NearItem : ℕ → ℕ → Item → Type 0
+NearItem lo hi i = NearEntry lo hi (i .head)
+
+-- what is listed behind cs and is, and what is in hand
+pub record NearLog (lo hi : ℕ) (cs : List Cell) (is : List Item) (l : Log) : Type 0 where
+  pub newCells : List Cell
+  pub newItems : List Item
+  pub cells : l .cells ≡ cs ++ newCells
+  pub items : l .items ≡ is ++ newItems
+  pub eachCell : Each (NearCell lo hi) newCells
+  pub eachItem : Each (NearItem lo hi) newItems
+  pub type : Near lo hi (l .begun .typefrom) (l .begun .typeto)
+  pub path : Near lo hi (l .begun .pathfrom) (l .begun .pathto)
+  pub head : NearEntry lo hi (l .head)
+
+abbrev pub Within : ℕ → ℕ → Taken → Type 0
+Within lo hi x = (lo ≤ x .tok .start) × (1 ≤ x .tok .start) × (x .tok .start < x .tok .end) × (x .tok .end ≤ hi)
+
+each-more : {A : Type 0} (P : A → Type 0) (l : List A) (a : A) → Each P l → P a → Each P (l ++ a ∷ [])
+each-more P [] a h p = (p, tt)
+each-more P (x ∷ l) a (y, h) p = (y, each-more P l a h p)
+
+no-entry : (lo hi k g p : ℕ) → NearEntry lo hi (headOf k g p)
+no-entry lo hi k g p = record { first = inl (refl, refl); second = inl (refl, refl) }
+
+edge-near : (lo hi : ℕ) (i : Bool) (g : ℕ) (h : Entry) → NearEntry lo hi h → NearEntry lo hi (edgePut i g h)
+edge-near lo hi false g h n = record { first = n .first; second = n .second }
+edge-near lo hi true g h n = record { first = n .first; second = n .second }
+
+end-near : (lo hi : ℕ) (i : Bool) (g b e : ℕ) (h : Entry) → Near lo hi b e → NearEntry lo hi h → NearEntry lo hi (endPut i g b e h)
+end-near lo hi false g b e h m n = record { first = m; second = n .second }
+end-near lo hi true g b e h m n = record { first = n .first; second = m }
+
+module _ (lo hi : ℕ) (cs : List Cell) (is : List Item) where
+  -- the log with something else in hand
+  module _ (l : Log) (h : NearLog lo hi cs is l) where
+    near-cell : (c : Begun) → Near lo hi (c .typefrom) (c .typeto) → Near lo hi (c .pathfrom) (c .pathto) → NearLog lo hi cs is (celled c l)
+    near-cell c t p =
+        record { newCells = h .newCells; newItems = h .newItems; cells = h .cells; items = h .items; eachCell = h .eachCell; eachItem = h .eachItem; type = t; path = p; head = h .head }
+
+    near-head : (e : Entry) → NearEntry lo hi e → NearLog lo hi cs is (headed e l)
+    near-head e n =
+        record { newCells = h .newCells; newItems = h .newItems; cells = h .cells; items = h .items; eachCell = h .eachCell; eachItem = h .eachItem; type = h .type; path = h .path; head = n }
+
+    -- nothing that has a place
+    near-as : (m : Log) → m .cells ≡ l .cells → m .items ≡ l .items → m .begun ≡ l .begun → m .head ≡ l .head → NearLog lo hi cs is m
+    near-as m a b c d =
+        record { newCells = h .newCells; newItems = h .newItems; cells = a ∙ h .cells; items = b ∙ h .items; eachCell = h .eachCell; eachItem = h .eachItem; type = rw c (h .type); path = rw c (h .path); head = rw d (h .head) }
+
+    near-finish : NearLog lo hi cs is (finished l)
+    near-finish =
+        record { newCells = h .newCells ++ cellOf (l .begun) (length (l .items) - l .begun .before) ∷ []; newItems = h .newItems; cells = ap (λ (x : List Cell). x ++ cellOf (l .begun) (length (l .items) - l .begun .before) ∷ []) (h .cells) ∙ append-assoc cs (h .newCells) (cellOf (l .begun) (length (l .items) - l .begun .before) ∷ []); items = h .items; eachCell = each-more (NearCell lo hi) (h .newCells) (cellOf (l .begun) (length (l .items) - l .begun .before)) (h .eachCell) (record { type = h .type; path = h .path }); eachItem = h .eachItem; type = inl (refl, refl); path = inl (refl, refl); head = h .head }
+
+    near-close : NearLog lo hi cs is (entered (itemOf l ∷ []) l)
+    near-close =
+        record { newCells = h .newCells; newItems = h .newItems ++ itemOf l ∷ []; cells = h .cells; items = ap (λ (x : List Item). x ++ itemOf l ∷ []) (h .items) ∙ append-assoc is (h .newItems) (itemOf l ∷ []); eachCell = h .eachCell; eachItem = each-more (NearItem lo hi) (h .newItems) (itemOf l) (h .eachItem) (h .head); type = h .type; path = h .path; head = no-entry lo hi 0 0 0 }
+
+  -- a token's bytes, and those between its quotes
+  whole-near : (b e : ℕ) → lo ≤ b → 1 ≤ b → b < e → e ≤ hi → Near lo hi b e
+  whole-near b e p q r s = inr (p, omega arith, omega arith, s, q, omega arith)
+
+  quoted-near : (b e : ℕ) → lo ≤ b → 1 ≤ b → b < e → e ≤ hi → Near lo hi (b + 1) (e - 1)
+  quoted-near b e p q r s = inr (omega arith, omega arith, omega arith, omega arith, omega arith, omega arith)
+
+  note-near : (k : Note) (t : Placed) (l : Log) → lo ≤ t .start → 1 ≤ t .start → t .start < t .end → t .end ≤ hi → NearLog lo hi cs is l →
+      NearLog lo hi cs is (noted k t l)
+  note-near skip t l a b c d h = h
+  note-near (heading k) t l a b c d h = near-as l h _ refl refl refl refl
+  note-near type t l a b c d h = near-cell l h _ (quoted-near (t .start) (t .end) a b c d) (h .path)
+  note-near top t l a b c d h = near-cell l h _ (h .type) (inl (refl, refl))
+  note-near named t l a b c d h = near-cell l h _ (h .type) (whole-near (t .start) (t .end) a b c d)
+  note-near any t l a b c d h = near-cell l h _ (h .type) (inl (refl, refl))
+  note-near finish t l a b c d h = near-finish l h
+  note-near (edged i) t l a b c d h = near-head l h _ (edge-near lo hi i _ (l .head) (h .head))
+  note-near (end i) t l a b c d h = near-head l h _ (end-near lo hi i _ _ _ (l .head) (whole-near (t .start) (t .end) a b c d) (h .head))
+  note-near (plain i) t l a b c d h = near-head l h _ (end-near lo hi i _ _ _ (l .head) (whole-near (t .start) (t .end) a b c d) (h .head))
+  note-near G.none t l a b c d h = near-as l h _ refl refl refl refl
+  note-near empty t l a b c d h = near-as l h _ refl refl refl refl
+  note-near all t l a b c d h = near-as l h _ refl refl refl refl
+  note-near whole t l a b c d h = near-as l h _ refl refl refl refl
+  note-near close t l a b c d h = near-close l h
+
+  near-simply : (v : Bool) (n s : ℕ) (d₀ d : Book) → NearLog lo hi cs is (d₀ .log) → pick v (bad n s) (fine d₀) ≡ fine d → NearLog lo hi cs is (d .log)
+  near-simply v n s d₀ d h e = subst (λ (x : Book). NearLog lo hi cs is (x .log)) (fine-inj (pick-fine v n s (fine d₀) d e .1)) h
+
+  act-near : (b : Book) (c : Cls) (x : Act) (t : Placed) (d : Book) → lo ≤ t .start → 1 ≤ t .start → t .start < t .end → t .end ≤ hi →
+      judgeBy b c x t ≡ fine d → NearLog lo hi cs is (b .log) → NearLog lo hi cs is (d .log)
+  act-near b c (note n) t d p q r s e h = near-simply (overlong c t) 8 (t .start) _ d (note-near n t (b .log) p q r s h) e
+  act-near b c (divide w) t d p q r s e h = near-simply (overlong c t) 8 (t .start) _ d h e
+  act-near b c scaled t d p q r s e h = near-simply (overlong c t) 8 (t .start) _ d h e
+  act-near b c unity t d p q r s e h = near-simply (overlong c t) 8 (t .start) _ d h e
+  act-near b c joined t d p q r s e h = near-simply (overlong c t) 8 (t .start) _ d h e
+  act-near b c cell t d p q r s e h =
+      near-simply (eqb (b .cellRoom) 0) 9 (t .start) _ d (near-cell (b .log) h _ (inl (refl, refl)) (inl (refl, refl)))
+      (pick-fine (overlong c t) 8 (t .start) _ d e .1)
+  act-near b c (entry g) t d p q r s e h =
+      near-simply (eqb (b .itemRoom) 0) 9 (t .start) _ d
+      (near-as (headed (headOf _ g (t .start)) (b .log)) (near-head (b .log) h _ (no-entry lo hi _ g (t .start))) _ refl refl refl refl)
+      (pick-fine (overlong c t) 8 (t .start) _ d e .1)
+  act-near b c (time w k) t d p q r s e h = by (numberOf w (b .unit) (t .bytes)) e
+    where
+      by : (v : Number) → timed b c k t v ≡ fine d → NearLog lo hi cs is (d .log)
+      by (number.Time z) e = near-simply (overlong c t) 8 (t .start) _ d (near-as (b .log) h _ refl refl refl refl) e
+      by number.Fine e = absurd (bad≢fine e)
+      by number.Beyond e = absurd (bad≢fine e)
+      by number.Wrong e = absurd (bad≢fine e)
+
+  -- ALL TOKENS
+  pub all-near : (xs : List Taken) (b d : Book) → Each (Within lo hi) xs → tells b xs ≡ fine d → NearLog lo hi cs is (b .log) → NearLog lo hi cs is (d .log)
+  unfolding judges
+  all-near [] b d s e h = subst (λ (x : Book). NearLog lo hi cs is (x .log)) (fine-inj e) h
+  all-near (x ∷ xs) b d ((p, q, r, s), ss) e h =
+      let (y, f, g) = then-fine (judge b (x .by) (x .tok)) (λ y. tells y xs) d e in
+      all-near xs y d ss g (act-near b (x .by .cls) (x .by .act) (x .tok) y p q r s f h)
+
+-- THE SAME BYTES
+empty-part : (s : List ℕ) → partOf s 0 0 ≡ []
+unfolding partOf
+empty-part s = by (leb 0 (length s))
+  where
+    by : (v : Bool) → pick {A = List ℕ} v [] [] ≡ []
+    by true = refl
+    by false = refl
+
+-- a part of the middle of a text
+inside-part : (x y z : List ℕ) (b e : ℕ) → b ≤ length y → e ≤ length y → partOf (x ++ (y ++ z)) (length x + b) (length x + e) ≡ partOf y b e
+unfolding partOf
+inside-part x y z b e h k = by (leb b e) refl
+  where
+    long : length x + e ≤ length (x ++ (y ++ z))
+    long = omega (arith, length-append x (y ++ z), length-append y z)
+
+    by : (v : Bool) → leb b e ≡ v →
+        pick (leb (length x + b) (length x + e)) (pick (leb (length x + e) (length (x ++ (y ++ z)))) (part (length x + b) (length x + e) (x ++ (y ++ z))) []) []
+        ≡ pick v (pick (leb e (length y)) (part b e y) []) []
+    by true f =
+        rw (le-leb (length x + b) (length x + e) (omega (arith, leb-true b e f)), le-leb (length x + e) (length (x ++ (y ++ z))) long, le-leb e (length y) k)
+        (part-behind x (y ++ z) b e ∙ part-front y z b e (leb-true b e f) k)
+    by false f = rw (lt-leb (length x + b) (length x + e) (omega (arith, leb-false b e f)))
+
+-- the middle of a text, in another text
+pub part-moves : (x y z x' z' : List ℕ) (b e : ℕ) → Near (length x') (length x' + length y) b e →
+    partOf (x ++ (y ++ z)) (moveAt (length x') (length x) b) (moveAt (length x') (length x) e) ≡ partOf (x' ++ (y ++ z')) b e
+part-moves x y z x' z' b e (inl (p, q)) =
+    rw (p, q, move-none (length x') (length x)) (empty-part (x ++ (y ++ z)) ∙ sym (empty-part (x' ++ (y ++ z'))))
+part-moves x y z x' z' b e (inr (p, q, r, s, t, u)) =
+    let b0 : length x' + (b - length x') ≡ b = omega arith in
+    let e0 : length x' + (e - length x') ≡ e = omega arith in
+    rw (move-some (length x') (length x) b t, move-some (length x') (length x) e u)
+    (inside-part x y z (b - length x') (e - length x') (omega arith) (omega arith)
+    ∙ (sym (inside-part x' y z' (b - length x') (e - length x') (omega arith) (omega arith))
+    ∙ at-these (x' ++ (y ++ z')) _ _ _ _ b0 e0))
+  where
+    at-these : (s : List ℕ) (b b' e e' : ℕ) → b ≡ b' → e ≡ e' → partOf s b e ≡ partOf s b' e'
+    at-these s b b' e e' p q = rw (p, q)
+
+-- the front of a text, in another text
+pub part-stays : (x z z' : List ℕ) (b e : ℕ) → Near 0 (length x) b e → partOf (x ++ z) b e ≡ partOf (x ++ z') b e
+part-stays x z z' b e (inl (p, q)) = rw (p, q) (empty-part (x ++ z) ∙ sym (empty-part (x ++ z')))
+part-stays x z z' b e (inr (p, q, r, s, t, u)) =
+    (rw (zero-add, zero-add) at (inside-part [] x z b e q s)) ∙ sym (rw (zero-add, zero-add) at (inside-part [] x z' b e q s))
+
+-- WHAT A NAME SAYS: a cell's type and path, and an entry's ends, have the same bytes in two texts
+abbrev pub SameCell : List ℕ → Cell → List ℕ → Cell → Type 0
+SameCell s c s' c' =
+    (partOf s' (c' .typefrom) (c' .typeto) ≡ partOf s (c .typefrom) (c .typeto)) × (partOf s' (c' .pathfrom) (c' .pathto) ≡ partOf s (c .pathfrom) (c .pathto))
+
+abbrev pub SameItem : List ℕ → Item → List ℕ → Item → Type 0
+SameItem s i s' i' =
+    (partOf s' (i' .head .from1) (i' .head .to1) ≡ partOf s (i .head .from1) (i .head .to1))
+    × (partOf s' (i' .head .from2) (i' .head .to2) ≡ partOf s (i .head .from2) (i .head .to2))
+
+each-same : {A : Type 0} (P Q : A → Type 0) → ((a : A) → P a → Q a) → (l : List A) → Each P l → Each Q l
+each-same P Q f [] h = tt
+each-same P Q f (a ∷ l) (x, h) = (f a x, each-same P Q f l h)
+
+pub cells-move : (x y z x' z' : List ℕ) (cs : List Cell) → Each (NearCell (length x') (length x' + length y)) cs →
+    Each (λ c. SameCell (x' ++ (y ++ z')) c (x ++ (y ++ z)) (moveCell (length x') (length x) c)) cs
+cells-move x y z x' z' cs h =
+    each-same (NearCell (length x') (length x' + length y)) _ (λ c n. (part-moves x y z x' z' _ _ (n .type), part-moves x y z x' z' _ _ (n .path))) cs h
+
+pub items-move : (x y z x' z' : List ℕ) (is : List Item) → Each (NearItem (length x') (length x' + length y)) is →
+    Each (λ i. SameItem (x' ++ (y ++ z')) i (x ++ (y ++ z)) (moveItem (length x') (length x) i)) is
+items-move x y z x' z' is h =
+    each-same (NearItem (length x') (length x' + length y)) _ (λ i n. (part-moves x y z x' z' _ _ (n .first), part-moves x y z x' z' _ _ (n .second))) is h
+
+pub cells-stay : (x z z' : List ℕ) (cs : List Cell) → Each (NearCell 0 (length x)) cs → Each (λ c. SameCell (x ++ z') c (x ++ z) c) cs
+cells-stay x z z' cs h = each-same (NearCell 0 (length x)) _ (λ c n. (part-stays x z z' _ _ (n .type), part-stays x z z' _ _ (n .path))) cs h
+
+pub items-stay : (x z z' : List ℕ) (is : List Item) → Each (NearItem 0 (length x)) is → Each (λ i. SameItem (x ++ z') i (x ++ z) i) is
+items-stay x z z' is h = each-same (NearItem 0 (length x)) _ (λ i n. (part-stays x z z' _ _ (n .first), part-stays x z z' _ _ (n .second))) is h
