@@ -11,4 +11,5 @@ pub mod Span
 pub mod Carried
 pub mod Near
 pub mod Parts
+pub mod Names
 pub mod Splice

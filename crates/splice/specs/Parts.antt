@@ -53,7 +53,7 @@ goes-order s (v ∷ vs) p q h (i, j, g) =
     later [] e = tt
     later (u ∷ vs) ((x, y), e) = let (a, b, c) = onwards s p _ _ _ _ h i in ((omega arith, y), later vs e)
 
-toks-append : (xs ys : List Taken) → toks (xs ++ ys) ≡ toks xs ++ toks ys
+pub toks-append : (xs ys : List Taken) → toks (xs ++ ys) ≡ toks xs ++ toks ys
 toks-append [] ys = refl
 toks-append (x ∷ xs) ys = ap (λ (l : List Placed). x .tok ∷ l) (toks-append xs ys)
 

@@ -1,0 +1,246 @@
+-- THE NAMES OF THE NEW FILE: 'After the swap a name's bytes stand in the old file or in the incoming cell.'
+-- Assumes nothing.
+use mathlib.Core.Path.{_≡_, refl, sym, ap, subst, _∙_}
+use mathlib.Core.Bool.{Bool, true, false}
+use mathlib.Core.List.{List, [], _∷_, _++_, map, append-nil, append-assoc, append-cancel-left, tail-eq-of-cons-eq, head-eq-of-cons-eq}
+use mathlib.Core.Logic.{inl}
+use Prim.Native.Nat.{ℕ, zero, suc, _+_, _-_, _≤_, _<_}
+use native.Mathlib.Nat.{le-refl}
+use native.Mathlib.Omega.{arith}
+use lib.ListN.{length, take, drop, length-append, length-drop, take-append-drop}
+use lib.Seq.{length-take-le, drop-drop, drop-at}
+use Rattle.tokens.specs.Stream.{Placed, part, stream, onwards}
+use Rattle.grammar.specs.declared.Cell.{Cell}
+use Rattle.grammar.specs.Machine.{Res, fine, bad, _then_, fine-inj, judges}
+use Rattle.grammar.specs.Grammar.{Term, opens, key, cell, _‼_}
+use Rattle.grammar.specs.Meaning.{Item, Log, Book, noHead, noCell, tidy, told, judge}
+use Rattle.grammar.specs.Outcome.{noLog}
+use Rattle.laws.specs.Taken.{Taken, toks, tells}
+use Rattle.laws.specs.Behind.{then-fine}
+use Rattle.sound.specs.Sound.{Each}
+use Rattle.splice.specs.Along.{Goes, stream-goes, goes-stream, goes-split}
+use Rattle.splice.specs.Swap.{swapped}
+use Rattle.splice.specs.Moved.{moveCell, moveItem}
+use Rattle.splice.specs.Span.{Begins, Tail}
+use Rattle.splice.specs.Carried.{Incoming}
+use Rattle.splice.specs.Near.{Near, NearCell, NearItem, NearEntry, NearLog, Within, all-near, SameCell, SameItem, cells-move, items-move, cells-stay, items-stay}
+use Rattle.splice.specs.Parts.{toks-append}
+
+-- TOKENS IN ORDER, up to the end of the last of them
+abbrev Ordered : ℕ → ℕ → Taken → Type 0
+Ordered p q v = (p ≤ v .tok .start) × (v .tok .start < v .tok .end) × (v .tok .end ≤ q)
+
+goes-ordered : (s : List ℕ) (vs : List Taken) (p q : ℕ) → p ≤ length s → Goes s p (toks vs) q → Each (Ordered p q) vs
+goes-ordered s [] p q h g = tt
+goes-ordered s (v ∷ vs) p q h (i, j, g) =
+    let (a, b, c) = onwards s p _ _ _ _ h i in
+    let (_, d, _, _) = goes-stream s (toks vs) (v .tok .end) q c g in
+    ((a, b, d), later vs (omega arith) (goes-ordered s vs (v .tok .end) q c g))
+  where
+    later : (vs : List Taken) → p ≤ v .tok .end → Each (Ordered (v .tok .end) q) vs → Each (Ordered p q) vs
+    later [] l e = tt
+    later (u ∷ vs) l ((x, y, z), e) = ((omega arith, y, z), later vs l e)
+
+-- the tokens behind one, up to some others
+record Order (s : List ℕ) (t : Taken) (vs ws : List Taken) : Type 0 where
+  q : ℕ
+  ahead : t .tok .start < t .tok .end
+  goes : Goes s (t .tok .end) (toks vs) q
+  each : Each (Ordered (t .tok .end) q) vs
+  fits : q ≤ length s
+  next : stream s q .toks ≡ toks ws
+
+order : (s : List ℕ) (us : List Taken) (t : Taken) (vs ws : List Taken) → stream s 0 .toks ≡ toks (us ++ (t ∷ (vs ++ ws))) → Order s t vs ws
+order s us t vs ws e =
+    let (q0, g0, i0, j0, k0) = stream-goes s (toks us) (t .tok ∷ toks (vs ++ ws)) 0 (omega arith) (e ∙ toks-append us (t ∷ (vs ++ ws))) in
+    let (r, (g1, b1, n1), i1, j1, k1) = stream-goes s (t .tok ∷ []) (toks (vs ++ ws)) q0 i0 j0 in
+    let (x, y, z) = onwards s q0 _ _ _ _ i0 g1 in
+    let j' : stream s (t .tok .end) .toks ≡ toks vs ++ toks ws = (rw (← n1) at j1) ∙ toks-append vs ws in
+    let (w, f, l, m, _) = stream-goes s (toks vs) (toks ws) (t .tok .end) z j' in
+    record { q = w; ahead = y; goes = f; each = goes-ordered s vs (t .tok .end) w z f; fits = l; next = m }
+
+-- such tokens stand within these bounds
+within-them : (lo hi p q : ℕ) (vs : List Taken) → lo ≤ p → 1 ≤ p → q ≤ hi → Each (Ordered p q) vs → Each (Within lo hi) vs
+within-them lo hi p q [] a b c e = tt
+within-them lo hi p q (v ∷ vs) a b c ((x, y, z), e) = ((omega arith, omega arith, y, omega arith), within-them lo hi p q vs a b c e)
+
+-- where nothing was added, it stands anywhere
+nothing-near : (lo hi : ℕ) (ts : List ℕ) (cs : List Cell) (is : List Item) (l : Log) → l ≡ tidy ts cs is → NearLog lo hi cs is l
+nothing-near lo hi ts cs is l e =
+    subst (λ (x : Log). NearLog lo hi cs is x) (sym e)
+    (record {
+      newCells = [];
+      newItems = [];
+      cells = sym (append-nil cs);
+      items = sym (append-nil is);
+      eachCell = tt;
+      eachItem = tt;
+      type = inl (refl, refl);
+      path = inl (refl, refl);
+      head = record { first = inl (refl, refl); second = inl (refl, refl) };
+    })
+
+at-opener : (o : Taken) (xs : List Taken) (b : Book) → o .by ≡ opens → tells b (o ∷ xs) ≡ tells (told b (o .tok) (b .log)) xs
+unfolding judges
+at-opener o xs b e = rw e
+
+-- BEFORE THE CELL
+pub front-near : (s : List ℕ) (hs : List Taken) (o : Taken) (r : List Taken) (b b1 : Book) → Begins hs → stream s 0 .toks ≡ toks (hs ++ (o ∷ r)) →
+    b .log ≡ noLog → tells b hs ≡ fine b1 → NearLog 0 (o .tok .start) [] [] (b1 .log)
+unfolding judges
+front-near s [] o r b b1 h e l t =
+    nothing-near 0 (o .tok .start) _ [] [] (b1 .log) (ap (λ (x : Book). x .log) (sym (fine-inj t)) ∙ l)
+front-near s (x ∷ hs) o r b b1 h e l t =
+    let O = order s [] x hs (o ∷ r) e in
+    let (q1, (g1, b1', n1), i1, j1, k1) = stream-goes s (o .tok ∷ []) (toks r) (O .q) (O .fits) (O .next) in
+    let (u, v, w) = onwards s (O .q) _ _ _ _ (O .fits) g1 in
+    let a = O .ahead in
+    all-near 0 (o .tok .start) [] [] hs (told b (x .tok) (b .log)) b1 (within-them 0 (o .tok .start) (x .tok .end) (O .q) hs (omega arith) (omega arith) u (O .each))
+    (sym (at-opener x hs b h) ∙ t) (nothing-near 0 (o .tok .start) _ [] [] (b .log) l)
+
+-- THE INCOMING CELL
+pub incoming-near : (t : List ℕ) (d : Bool) (ys : List Taken) (I : Incoming d ys) (U : Tail (I .cs)) (b e : Book) → stream t 0 .toks ≡ toks ys → b .log ≡ noLog →
+    tells b ys ≡ fine e →
+    (I .o .tok .start ≤ U .x .tok .end) × (U .x .tok .end ≤ length t) × NearLog (I .o .tok .start) (U .x .tok .end) [] [] (e .log)
+incoming-near t d ys I U b e s l f =
+    let vs : List Taken = I .w ∷ I .cs in
+    let O = order t [] (I .o) vs [] (s ∙ (ap toks (I .split) ∙ ap (λ (z : List Taken). toks (I .o ∷ z)) (sym (append-nil vs)))) in
+    let g : Goes t (I .o .tok .end) (toks (I .w ∷ U .ms) ++ U .x .tok ∷ []) (O .q) =
+        subst (λ (z : List Placed). Goes t (I .o .tok .end) (I .w .tok ∷ z) (O .q)) (ap toks (U .split) ∙ toks-append (U .ms) (U .x ∷ [])) (O .goes) in
+    let (r, g1, (i, j, k)) = goes-split t (toks (I .w ∷ U .ms)) (U .x .tok ∷ []) (I .o .tok .end) (O .q) g in
+    let a = O .ahead in
+    let c = O .fits in
+    let le : I .o .tok .end ≤ U .x .tok .end = omega (arith, goes-stream t (toks vs) (I .o .tok .end) (O .q) (omega arith) (O .goes) .1) in
+    (omega arith, omega arith,
+    all-near (I .o .tok .start) (U .x .tok .end) [] [] vs (told b (I .o .tok) (b .log)) e
+    (within-them (I .o .tok .start) (U .x .tok .end) (I .o .tok .end) (O .q) vs (omega arith) (omega arith) (omega arith) (O .each))
+    (sym (at-opener (I .o) vs b (I .block .opener)) ∙ (ap (tells b) (sym (I .split)) ∙ f)) (nothing-near _ _ _ [] [] (b .log) l))
+
+-- BEHIND THE CELL
+pub behind-near : (s : List ℕ) (us : List Taken) (x : Taken) (zs : List Taken) (b2 e : Book) (ts : List ℕ) (cs : List Cell) (is : List Item) →
+    stream s 0 .toks ≡ toks (us ++ (x ∷ zs)) → b2 .log ≡ tidy ts cs is → tells b2 zs ≡ fine e →
+    (x .tok .end ≤ length s) × NearLog (x .tok .end) (length s) cs is (e .log)
+behind-near s us x zs b2 e ts cs is h l t =
+    let O = order s us x zs [] (h ∙ ap (λ (z : List Taken). toks (us ++ (x ∷ z))) (sym (append-nil zs))) in
+    let a = O .ahead in
+    let c = O .fits in
+    let (_, d, _, _) = goes-stream s (toks zs) (x .tok .end) (O .q) (ends s us x zs h) (O .goes) in
+    (omega arith,
+    all-near (x .tok .end) (length s) cs is zs b2 e (within-them (x .tok .end) (length s) (x .tok .end) (O .q) zs (le-refl (x .tok .end)) (omega arith) c (O .each)) t
+    (nothing-near _ _ ts cs is (b2 .log) l))
+  where
+    ends : (s : List ℕ) (us : List Taken) (x : Taken) (zs : List Taken) → stream s 0 .toks ≡ toks (us ++ (x ∷ zs)) → x .tok .end ≤ length s
+    ends s us x zs h =
+        let (q0, g0, i0, j0, k0) = stream-goes s (toks us) (x .tok ∷ toks zs) 0 (omega arith) (h ∙ toks-append us (x ∷ zs)) in
+        let (r, (g1, b1, n1), i1, j1, k1) = stream-goes s (x .tok ∷ []) (toks zs) q0 i0 j0 in
+        onwards s q0 _ _ _ _ i0 g1 .2
+
+-- THE BYTES. s is the file, t the incoming text, n the new file; the old cell stands from p to q, the incoming one from p' to q'
+pub record Named (s t n : List ℕ) (p q p' q' : ℕ) (front : List Cell) (frontItems : List Item) (incoming : List Cell) (items : List Item) (behind : List Cell)
+    (behindItems : List Item) : Type 0 where
+  -- before the cell: as in the file, at the same place
+  pub frontSame : Each (λ c. SameCell s c n c) front
+  pub frontItemsSame : Each (λ i. SameItem s i n i) frontItems
+  -- the incoming cell: as in the incoming text
+  pub incomingSame : Each (λ c. SameCell t c n (moveCell p' p c)) incoming
+  pub itemsSame : Each (λ i. SameItem t i n (moveItem p' p i)) items
+  -- behind the cell: as in the file
+  pub behindSame : Each (λ c. SameCell s c n (moveCell q (p + (q' - p')) c)) behind
+  pub behindItemsSame : Each (λ i. SameItem s i n (moveItem q (p + (q' - p')) i)) behindItems
+
+middle : (t : List ℕ) (p q : ℕ) → p ≤ q → take p t ++ (part p q t ++ drop q t) ≡ t
+middle t p q h =
+    let z : p + (q - p) ≡ q = omega arith in
+    ap (λ (l : List ℕ). take p t ++ (part p q t ++ l)) (sym (drop-drop (q - p) p t ∙ ap (λ (n : ℕ). drop n t) z))
+    ∙ (ap (λ (l : List ℕ). take p t ++ l) (take-append-drop (q - p) (drop p t)) ∙ take-append-drop p t)
+
+module _ (s t : List ℕ) (p q p' q' : ℕ) (h : p ≤ length s) (k : q ≤ length s) (i : p' ≤ q') (j : q' ≤ length t) where
+  abbrev new : List ℕ
+  new = swapped s p q t p' q'
+
+  front-size : length (take p s) ≡ p
+  front-size = length-take-le p s h
+
+  in-size : length (take p' t) ≡ p'
+  in-size = length-take-le p' t (omega arith)
+
+  mid-size : length (part p' q' t) ≡ q' - p'
+  mid-size = length-take-le (q' - p') (drop p' t) (omega (arith, length-drop p' t))
+
+  fronts : (cs : List Cell) → Each (NearCell 0 p) cs → Each (λ c. SameCell s c new c) cs
+  fronts cs e =
+      subst (λ (x : List ℕ). Each (λ c. SameCell x c new c) cs) (take-append-drop p s)
+      (cells-stay (take p s) (part p' q' t ++ drop q s) (drop p s) cs (subst (λ (x : ℕ). Each (NearCell 0 x) cs) (sym front-size) e))
+
+  front-items : (is : List Item) → Each (NearItem 0 p) is → Each (λ c. SameItem s c new c) is
+  front-items is e =
+      subst (λ (x : List ℕ). Each (λ c. SameItem x c new c) is) (take-append-drop p s)
+      (items-stay (take p s) (part p' q' t ++ drop q s) (drop p s) is (subst (λ (x : ℕ). Each (NearItem 0 x) is) (sym front-size) e))
+
+  ins : (cs : List Cell) → Each (NearCell p' q') cs → Each (λ c. SameCell t c new (moveCell p' p c)) cs
+  ins cs e =
+      let z : length (take p' t) + length (part p' q' t) ≡ q' = omega (arith, in-size, mid-size) in
+      subst (λ (x : List ℕ). Each (λ c. SameCell x c new (moveCell p' p c)) cs) (middle t p' q' i)
+      (subst (λ (x : ℕ). Each (λ c. SameCell (take p' t ++ (part p' q' t ++ drop q' t)) c new (moveCell p' x c)) cs) front-size
+      (subst (λ (x : ℕ). Each (λ c. SameCell (take p' t ++ (part p' q' t ++ drop q' t)) c new (moveCell x (length (take p s)) c)) cs) in-size
+      (cells-move (take p s) (part p' q' t) (drop q s) (take p' t) (drop q' t) cs
+      (subst (λ (x : ℕ). Each (NearCell x (length (take p' t) + length (part p' q' t))) cs) (sym in-size) (subst (λ (x : ℕ). Each (NearCell p' x) cs) (sym z) e)))))
+
+  in-items : (is : List Item) → Each (NearItem p' q') is → Each (λ c. SameItem t c new (moveItem p' p c)) is
+  in-items is e =
+      let z : length (take p' t) + length (part p' q' t) ≡ q' = omega (arith, in-size, mid-size) in
+      subst (λ (x : List ℕ). Each (λ c. SameItem x c new (moveItem p' p c)) is) (middle t p' q' i)
+      (subst (λ (x : ℕ). Each (λ c. SameItem (take p' t ++ (part p' q' t ++ drop q' t)) c new (moveItem p' x c)) is) front-size
+      (subst (λ (x : ℕ). Each (λ c. SameItem (take p' t ++ (part p' q' t ++ drop q' t)) c new (moveItem x (length (take p s)) c)) is) in-size
+      (items-move (take p s) (part p' q' t) (drop q s) (take p' t) (drop q' t) is
+      (subst (λ (x : ℕ). Each (NearItem x (length (take p' t) + length (part p' q' t))) is) (sym in-size) (subst (λ (x : ℕ). Each (NearItem p' x) is) (sym z) e)))))
+
+  -- the part behind, as the middle of both texts
+  abbrev up : List ℕ
+  up = take p s ++ part p' q' t
+
+  up-size : length up ≡ p + (q' - p')
+  up-size = length-append (take p s) (part p' q' t) ∙ rw (front-size, mid-size)
+
+  end-size : length (take q s) ≡ q
+  end-size = length-take-le q s k
+
+  all-size : length (take q s) + length (drop q s) ≡ length s
+  all-size = omega (arith, end-size, length-drop q s)
+
+  old-whole : take q s ++ (drop q s ++ []) ≡ s
+  old-whole = rw append-nil (take-append-drop q s)
+
+  new-whole : up ++ (drop q s ++ []) ≡ new
+  new-whole = rw append-nil (append-assoc (take p s) (part p' q' t) (drop q s))
+
+  behinds : (cs : List Cell) → Each (NearCell q (length s)) cs → Each (λ c. SameCell s c new (moveCell q (p + (q' - p')) c)) cs
+  behinds cs e =
+      subst (λ (x : List ℕ). Each (λ c. SameCell x c new (moveCell q (p + (q' - p')) c)) cs) old-whole
+      (subst (λ (x : List ℕ). Each (λ c. SameCell (take q s ++ (drop q s ++ [])) c x (moveCell q (p + (q' - p')) c)) cs) new-whole
+      (subst (λ (x : ℕ). Each (λ c. SameCell (take q s ++ (drop q s ++ [])) c (up ++ (drop q s ++ [])) (moveCell q x c)) cs) up-size
+      (subst (λ (x : ℕ). Each (λ c. SameCell (take q s ++ (drop q s ++ [])) c (up ++ (drop q s ++ [])) (moveCell x (length up) c)) cs) end-size
+      (cells-move up (drop q s) [] (take q s) [] cs
+      (subst (λ (x : ℕ). Each (NearCell x (length (take q s) + length (drop q s))) cs) (sym end-size) (subst (λ (x : ℕ). Each (NearCell q x) cs) (sym all-size) e))))))
+
+  behind-items : (is : List Item) → Each (NearItem q (length s)) is → Each (λ c. SameItem s c new (moveItem q (p + (q' - p')) c)) is
+  behind-items is e =
+      subst (λ (x : List ℕ). Each (λ c. SameItem x c new (moveItem q (p + (q' - p')) c)) is) old-whole
+      (subst (λ (x : List ℕ). Each (λ c. SameItem (take q s ++ (drop q s ++ [])) c x (moveItem q (p + (q' - p')) c)) is) new-whole
+      (subst (λ (x : ℕ). Each (λ c. SameItem (take q s ++ (drop q s ++ [])) c (up ++ (drop q s ++ [])) (moveItem q x c)) is) up-size
+      (subst (λ (x : ℕ). Each (λ c. SameItem (take q s ++ (drop q s ++ [])) c (up ++ (drop q s ++ [])) (moveItem x (length up) c)) is) end-size
+      (items-move up (drop q s) [] (take q s) [] is
+      (subst (λ (x : ℕ). Each (NearItem x (length (take q s) + length (drop q s))) is) (sym end-size) (subst (λ (x : ℕ). Each (NearItem q x) is) (sym all-size) e))))))
+
+  -- all of them
+  pub named : (fc ic bc : List Cell) (fi ii bi : List Item) → Each (NearCell 0 p) fc → Each (NearItem 0 p) fi → Each (NearCell p' q') ic →
+      Each (NearItem p' q') ii → Each (NearCell q (length s)) bc → Each (NearItem q (length s)) bi → Named s t new p q p' q' fc fi ic ii bc bi
+  named fc ic bc fi ii bi a b c d e f =
+      record {
+        frontSame = fronts fc a;
+        frontItemsSame = front-items fi b;
+        incomingSame = ins ic c;
+        itemsSame = in-items ii d;
+        behindSame = behinds bc e;
+        behindItemsSame = behind-items bi f;
+      }
