@@ -8,7 +8,7 @@ use Prim.Native.Nat.{ℕ, zero, suc, _+_, _-_, _≤_, _<_}
 use native.Mathlib.Nat.{le-refl}
 use native.Mathlib.Omega.{arith}
 use lib.ListN.{length, take, drop, length-append, length-drop, take-append-drop}
-use lib.Seq.{length-take-le, drop-drop, drop-at}
+use lib.Seq.{length-take-le, drop-drop, drop-at, append-snoc}
 use Rattle.tokens.specs.Stream.{Placed, part, stream, onwards}
 use Rattle.grammar.specs.declared.Cell.{Cell}
 use Rattle.grammar.specs.Machine.{Res, fine, bad, _then_, fine-inj, judges}
@@ -106,15 +106,26 @@ incoming-near t d ys I U b e s l f =
     let vs : List Taken = I .w ∷ I .cs in
     let O = order t [] (I .o) vs [] (s ∙ (ap toks (I .split) ∙ ap (λ (z : List Taken). toks (I .o ∷ z)) (sym (append-nil vs)))) in
     let g : Goes t (I .o .tok .end) (toks (I .w ∷ U .ms) ++ U .x .tok ∷ []) (O .q) =
-        subst (λ (z : List Placed). Goes t (I .o .tok .end) (I .w .tok ∷ z) (O .q)) (ap toks (U .split) ∙ toks-append (U .ms) (U .x ∷ [])) (O .goes) in
+    subst (λ (z : List Placed). Goes t (I .o .tok .end) (I .w .tok ∷ z) (O .q)) (ap toks (U .split) ∙ toks-append (U .ms) (U .x ∷ [])) (O .goes) in
     let (r, g1, (i, j, k)) = goes-split t (toks (I .w ∷ U .ms)) (U .x .tok ∷ []) (I .o .tok .end) (O .q) g in
     let a = O .ahead in
     let c = O .fits in
-    let le : I .o .tok .end ≤ U .x .tok .end = omega (arith, goes-stream t (toks vs) (I .o .tok .end) (O .q) (omega arith) (O .goes) .1) in
-    (omega arith, omega arith,
-    all-near (I .o .tok .start) (U .x .tok .end) [] [] vs (told b (I .o .tok) (b .log)) e
-    (within-them (I .o .tok .start) (U .x .tok .end) (I .o .tok .end) (O .q) vs (omega arith) (omega arith) (omega arith) (O .each))
-    (sym (at-opener (I .o) vs b (I .block .opener)) ∙ (ap (tells b) (sym (I .split)) ∙ f)) (nothing-near _ _ _ [] [] (b .log) l))
+    let le : I .o .tok .end ≤ U .x .tok .end = omega (arith, goes-stream t (toks vs) (I .o .tok .end) (O .q) (omega arith) (O .goes) .1) in (
+      omega arith,
+      omega arith,
+      all-near (I .o .tok .start) (U .x .tok .end) [] [] vs (told b (I .o .tok) (b .log)) e
+          (within-them (I .o .tok .start) (U .x .tok .end) (I .o .tok .end) (O .q) vs (omega arith) (omega arith) (omega arith) (O .each))
+          (sym (at-opener (I .o) vs b (I .block .opener)) ∙ (ap (tells b) (sym (I .split)) ∙ f)) (nothing-near _ _ _ [] [] (b .log) l),
+    )
+
+-- a token stands in the text
+pub token-inside : (s : List ℕ) (us : List Taken) (x : Taken) (zs : List Taken) → stream s 0 .toks ≡ toks (us ++ (x ∷ zs)) →
+    (x .tok .start < x .tok .end) × (x .tok .end ≤ length s)
+token-inside s us x zs h =
+    let (q0, g0, i0, j0, k0) = stream-goes s (toks us) (x .tok ∷ toks zs) 0 (omega arith) (h ∙ toks-append us (x ∷ zs)) in
+    let (r, (g1, b1, n1), i1, j1, k1) = stream-goes s (x .tok ∷ []) (toks zs) q0 i0 j0 in
+    let (u, v, w) = onwards s q0 _ _ _ _ i0 g1 in
+    (v, w)
 
 -- BEHIND THE CELL
 pub behind-near : (s : List ℕ) (us : List Taken) (x : Taken) (zs : List Taken) (b2 e : Book) (ts : List ℕ) (cs : List Cell) (is : List Item) →
@@ -124,16 +135,11 @@ behind-near s us x zs b2 e ts cs is h l t =
     let O = order s us x zs [] (h ∙ ap (λ (z : List Taken). toks (us ++ (x ∷ z))) (sym (append-nil zs))) in
     let a = O .ahead in
     let c = O .fits in
-    let (_, d, _, _) = goes-stream s (toks zs) (x .tok .end) (O .q) (ends s us x zs h) (O .goes) in
-    (omega arith,
-    all-near (x .tok .end) (length s) cs is zs b2 e (within-them (x .tok .end) (length s) (x .tok .end) (O .q) zs (le-refl (x .tok .end)) (omega arith) c (O .each)) t
-    (nothing-near _ _ ts cs is (b2 .log) l))
-  where
-    ends : (s : List ℕ) (us : List Taken) (x : Taken) (zs : List Taken) → stream s 0 .toks ≡ toks (us ++ (x ∷ zs)) → x .tok .end ≤ length s
-    ends s us x zs h =
-        let (q0, g0, i0, j0, k0) = stream-goes s (toks us) (x .tok ∷ toks zs) 0 (omega arith) (h ∙ toks-append us (x ∷ zs)) in
-        let (r, (g1, b1, n1), i1, j1, k1) = stream-goes s (x .tok ∷ []) (toks zs) q0 i0 j0 in
-        onwards s q0 _ _ _ _ i0 g1 .2
+    let (_, d, _, _) = goes-stream s (toks zs) (x .tok .end) (O .q) (token-inside s us x zs h .1) (O .goes) in (
+      omega arith,
+      all-near (x .tok .end) (length s) cs is zs b2 e (within-them (x .tok .end) (length s) (x .tok .end) (O .q) zs (le-refl (x .tok .end)) (omega arith) c (O .each)) t
+          (nothing-near _ _ ts cs is (b2 .log) l),
+    )
 
 -- THE BYTES. s is the file, t the incoming text, n the new file; the old cell stands from p to q, the incoming one from p' to q'
 pub record Named (s t n : List ℕ) (p q p' q' : ℕ) (front : List Cell) (frontItems : List Item) (incoming : List Cell) (items : List Item) (behind : List Cell)
@@ -244,3 +250,14 @@ module _ (s t : List ℕ) (p q p' q' : ℕ) (h : p ≤ length s) (k : q ≤ leng
         behindSame = behinds bc e;
         behindItemsSame = behind-items bi f;
       }
+
+-- what stands behind is the same list where what stands before is
+pub behind-cells : (a : List Cell) (c c' : Cell) (m m' : List Cell) → (a ++ c ∷ []) ++ m ≡ (a ++ c' ∷ []) ++ m' → (c ≡ c') × (m ≡ m')
+behind-cells a c c' m m' e =
+    let f : c ∷ m ≡ c' ∷ m' = append-cancel-left a (c ∷ m) (c' ∷ m') (sym (append-snoc a c m) ∙ (e ∙ append-snoc a c' m')) in
+    (head-eq-of-cons-eq f, tail-eq-of-cons-eq f)
+
+pub same-items : (a l l' m m' : List Item) → (a ++ l) ++ m ≡ (a ++ l') ++ m' → length l ≡ length l' → m ≡ m'
+same-items a l l' m m' e h =
+    let f : l ++ m ≡ l' ++ m' = append-cancel-left a (l ++ m) (l' ++ m') (sym (append-assoc a l m) ∙ (e ∙ append-assoc a l' m')) in
+    sym (drop-at l m (length l) refl) ∙ (ap (drop (length l)) f ∙ drop-at l' m' (length l) (sym h))

@@ -353,7 +353,7 @@ last-kind d cs f T =
     (subst (λ (z : List Taken). Each (λ x. fits (x .by) (x .tok) ≡ true) z) (T .split) (each-fits cs (cellTail d) [] f)) in
     closer-kind (T .x .tok) (rw (T .last) at g)
 
-file-begins : (hs : List Taken) (l : Stack) → Fed file hs l → Begins hs
+pub file-begins : (hs : List Taken) (l : Stack) → Fed file hs l → Begins hs
 unfolding file
 file-begins [] l f = tt
 file-begins (h ∷ hs) l f = let (m, g, i) = fed-uncons file h hs l f in lit-taken opens _ m h g .0

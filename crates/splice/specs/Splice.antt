@@ -21,7 +21,9 @@ use Rattle.laws.specs.Behind.{Fed, fed, reaches}
 use Rattle.laws.specs.Exactly.{Follows, Says, read-exactly, cell-exactly, read-says, cell-says, whole}
 use Rattle.sound.specs.Sound.{Each, total, read-sound}
 use Rattle.splice.specs.Moved.{moveCell, moveItem, moveTaken}
-use Rattle.splice.specs.OneCell.{Stands}
+use Rattle.splice.specs.OneCell.{Stands, Done, Adds}
+use Rattle.splice.specs.Near.{NearCell, NearItem, NearLog}
+use Rattle.splice.specs.Names.{Named, named, front-near, incoming-near, behind-near, token-inside, behind-cells, same-items}
 use Rattle.splice.specs.Several.{count-moved}
 use Rattle.splice.specs.Span.{cellFrom, cellTo, newFile, takenOf, taken-is, newFileOf, CellAt, cell-at, Tail, tail-of}
 use Rattle.splice.specs.Carried.{Incoming, incoming, newTaken, new-carried}
@@ -30,7 +32,9 @@ use Rattle.splice.specs.Parts.{
   old,
   Sizes,
   sizes,
+  old-cell,
   old-keeps,
+  file-begins,
   old-entries,
   entriesAt,
   NewRun,
@@ -52,9 +56,9 @@ use Rattle.splice.specs.Parts.{
   new-stands,
 }
 
--- what the file st, the incoming text st2 and the new file st' list, where the file's cell number k stands from p to q and the incoming cell from
+-- what the file (the text s), the incoming text (t) and the new file (n) list, read as st, st2 and st', where the file's cell number k stands from p to q and the incoming cell from
 -- p' to q'
-pub record Spliced (k p q p' q' : ℕ) (st st2 st' : At) : Type 0 where
+pub record Spliced (s t n : List ℕ) (k p q p' q' : ℕ) (st st2 st' : At) : Type 0 where
   pub front : List Cell
   pub outgoing : Cell
   pub behind : List Cell
@@ -77,17 +81,20 @@ pub record Spliced (k p q p' q' : ℕ) (st st2 st' : At) : Type 0 where
   pub slash : st' .book .slash ≡ st .book .slash
   pub unit : st' .book .unit ≡ st .book .unit
   pub stack : st' .stack ≡ []
+  -- 'After the swap a name's bytes stand in the old file or in the incoming cell.'
+  pub names : Named s t n p q p' q' front frontItems (incoming ∷ []) (st2 .book .log .items) behind behindItems
 
 regrouped : (f : Item → Item) (ts ts' : List ℕ) (a : List Cell) (x : Cell) (b : List Cell) (c d d' e : List Item) (l : Log) → ts ≡ ts' → d ≡ d' →
     l ≡ tidy ts ((a ++ x ∷ []) ++ b) ((c ++ map f d) ++ e) → l ≡ tidy ts' (a ++ x ∷ b) (c ++ (map f d' ++ e))
 regrouped f ts ts' a x b c d d' e l p q h = h ∙ rw (append-snoc a x b, append-assoc c (map f d) e, p, q)
 
 -- from the runs of the parts
-spliced-by : (n p q p' q' cr ir : ℕ) (b b1 : Book) (hs ys zs : List Taken) (st st2 : At) (R : NewRun b (st .book) b1 (st2 .book) hs ys zs p q p' (p + (q' - p')) cr ir) →
+spliced-by : (sT tT nT : List ℕ) (n p q p' q' cr ir : ℕ) (b b1 : Book) (hs ys zs : List Taken) (st st2 : At) (R : NewRun b (st .book) b1 (st2 .book) hs ys zs p q p' (p + (q' - p')) cr ir) →
     length (b1 .log .cells) ≡ n → total (st .book .log .cells) ≡ length (st .book .log .items) → st .book .slash ≡ b1 .slash → st .book .unit ≡ b1 .unit →
-    Spliced (suc n) p q p' q' st st2 (record { stack = []; book = R .e' })
+    Named sT tT nT p q p' q' (b1 .log .cells) (b1 .log .items) (R .new ∷ []) (st2 .book .log .items) (R .behindCells) (R .behindItems) →
+    Spliced sT tT nT (suc n) p q p' q' st st2 (record { stack = []; book = R .e' })
 unfolding total
-spliced-by n p q p' q' cr ir b b1 hs ys zs st st2 R c t s u =
+spliced-by sT tT nT n p q p' q' cr ir b b1 hs ys zs st st2 R c t s u names =
     let x : st .book .log .cells ≡ b1 .log .cells ++ R .outgoing ∷ R .behindCells =
     ap (λ (l : Log). l .cells) (R .oldLog) ∙ append-snoc (b1 .log .cells) (R .outgoing) (R .behindCells) in
     let y : st .book .log .items ≡ b1 .log .items ++ (R .outItems ++ R .behindItems) =
@@ -117,6 +124,7 @@ spliced-by n p q p' q' cr ir b b1 hs ys zs st st2 R c t s u =
       slash = R .slash' ∙ sym s;
       unit = R .unit' ∙ sym u;
       stack = refl;
+      names = names;
     }
 
 -- from the parts of both texts
@@ -178,20 +186,51 @@ module _ (cr ir : ℕ) (s : List ℕ) (st : At) (xs : List Taken) (f : Follows (
 
   -- the new file is read
   abbrev Law : List ℕ → ℕ → ℕ → ℕ → ℕ → ℕ → ℕ → Type 0
-  Law s cr' ir' p q p2 q2 = (st' : At) × (readFile cr' ir' s ≡ fine st') × Spliced (suc n) p q p2 q2 st st2 st'
+  Law m cr' ir' p q p2 q2 = (st' : At) × (readFile cr' ir' m ≡ fine st') × Spliced s t m (suc n) p q p2 q2 st st2 st'
+
+  -- the names' bytes
+  new-names : (cr' ir' : ℕ) (R : NewRun b (st .book) (O .b1) (st2 .book) (C .hs) ys (C .zs) p q p2 (p + (q2 - p2)) cr' ir') → Each (Stands 0) (C .w ∷ C .cs) →
+      Named s t (N s t xs ys n b C I T U) p q p2 q2 (O .b1 .log .cells) (O .b1 .log .items) (R .new ∷ []) (st2 .book .log .items) (R .behindCells) (R .behindItems)
+  new-names cr' ir' R s1 = by (old-cell xs n b (st .book) C O s1)
+    where
+      tokens1 : stream s 0 .toks ≡ toks (C .hs ++ (C .o ∷ C .w ∷ (C .cs ++ C .zs)))
+      tokens1 = sym (f .tokens) ∙ ap toks (C .split)
+
+      tokens2 : stream s 0 .toks ≡ toks ((C .hs ++ (C .o ∷ C .w ∷ T .ms)) ++ (T .x ∷ C .zs))
+      tokens2 =
+          tokens1 ∙ ap toks (ap (λ (z : List Taken). C .hs ++ (C .o ∷ C .w ∷ z)) (ap (λ (z : List Taken). z ++ C .zs) (T .split) ∙ append-assoc (T .ms) (T .x ∷ []) (C .zs))
+          ∙ sym (append-assoc (C .hs) (C .o ∷ C .w ∷ T .ms) (T .x ∷ C .zs)))
+
+      by : Adds 0 0 (O .b1 .log .texts) (O .b1 .log .texts) (O .b1 .log .cells) (O .b1 .log .cells) (O .b1 .log .items) (O .b1 .log .items) (O .b1) (O .b1) (O .b2)
+          (C .o ∷ C .w ∷ C .cs) →
+          Named s t (N s t xs ys n b C I T U) p q p2 q2 (O .b1 .log .cells) (O .b1 .log .items) (R .new ∷ []) (st2 .book .log .items) (R .behindCells) (R .behindItems)
+      by A =
+          let F = front-near s (C .hs) (C .o) (C .w ∷ (C .cs ++ C .zs)) b (O .b1) (file-begins (C .hs) (C .l) (C .front)) tokens1 refl (O .t1) in
+          let (g1, g2, G) = incoming-near t (C .d) ys I U (starting (asCell slash unit cr2 ir2) .book) (st2 .book) (sym (f2 .tokens)) refl (S2 .told) in
+          let (h1, H) = behind-near s (C .hs ++ (C .o ∷ C .w ∷ T .ms)) (T .x) (C .zs) (O .b2) (st .book) _ _ _ tokens2 (A .done .log) (O .t3) in
+          let (i1, i2) = token-inside s (C .hs) (C .o) (C .w ∷ (C .cs ++ C .zs)) tokens1 in
+          let (c1, c2) = behind-cells (O .b1 .log .cells) (R .outgoing) (A .done .cell) (R .behindCells) (H .newCells) (sym (ap (λ (l : Log). l .cells) (R .oldLog)) ∙ H .cells) in
+          let e = same-items (O .b1 .log .items) (R .outItems) (A .done .new) (R .behindItems) (H .newItems) (sym (ap (λ (l : Log). l .items) (R .oldLog)) ∙ H .items)
+          (sym (R .outCount) ∙ (ap (λ (x : Cell). x .entries) c1 ∙ A .done .count)) in
+          named s t p q p2 q2 (omega arith) h1 g1 g2 (O .b1 .log .cells) (R .new ∷ []) (R .behindCells) (O .b1 .log .items) (st2 .book .log .items) (R .behindItems)
+          (subst (λ (x : List Cell). Each (NearCell 0 p) x) (sym (F .cells)) (F .eachCell)) (subst (λ (x : List Item). Each (NearItem 0 p) x) (sym (F .items)) (F .eachItem))
+          (subst (λ (x : List Cell). Each (NearCell p2 q2) x) (sym (G .cells) ∙ ap (λ (l : Log). l .cells) (R .inLog)) (G .eachCell))
+          (subst (λ (x : List Item). Each (NearItem p2 q2) x) (sym (G .items)) (G .eachItem))
+          (subst (λ (x : List Cell). Each (NearCell q (length s)) x) (sym c2) (H .eachCell)) (subst (λ (x : List Item). Each (NearItem q (length s)) x) (sym e) (H .eachItem))
 
   by-run : (cr' ir' : ℕ) → length (N s t xs ys n b C I T U) ≤ textLimit → st .book .slash ≡ C .d → st .book .unit ≡ O .b1 .unit →
       total (st .book .log .cells) ≡ length (st .book .log .items) →
+      Each (Stands 0) (C .w ∷ C .cs) →
       NewRun b (st .book) (O .b1) (st2 .book) (C .hs) ys (C .zs) p q p2 (p + (q2 - p2)) cr' ir' → Law (N s t xs ys n b C I T U) cr' ir' p q p2 q2
-  by-run cr' ir' h sl un tot R =
+  by-run cr' ir' h sl un tot s1 R =
       let (u, v) = new-tokens s t xs ys n b C I T U (sym (f .tokens)) (sym (f2 .tokens)) in (
         record { stack = []; book = R .e' },
         file-is cr' ir' (N s t xs ys n b C I T U)
             ∙ whole (asFile cr' ir') (N s t xs ys n b C I T U) (R .e') h
             (ap (runs (starting (asFile cr' ir'))) u ∙ reaches (asFile cr' ir') new [] (R .e') (new-carried xs n b C ys I p2 p q (p + (q2 - p2))) (R .told'))
             (v ∙ f .ended),
-        spliced-by n p q p2 q2 cr' ir' b (O .b1) (C .hs) ys (C .zs) st st2 R (sizes (asFile cr ir) xs n (st .book) C O .cells1 ∙ C .number) tot
-            (sl ∙ sym (O .slash1)) un,
+        spliced-by s t (N s t xs ys n b C I T U) n p q p2 q2 cr' ir' b (O .b1) (C .hs) ys (C .zs) st st2 R (sizes (asFile cr ir) xs n (st .book) C O .cells1 ∙ C .number) tot
+            (sl ∙ sym (O .slash1)) un (new-names cr' ir' R s1),
       )
 
   by-parts : (cr' ir' : ℕ) → unit ≡ st .book .unit → length (newFile s xs (suc n) t ys) ≤ textLimit → length (st .book .log .cells) ≤ cr' →
@@ -208,7 +247,7 @@ module _ (cr ir : ℕ) (s : List ℕ) (st : At) (xs : List Taken) (f : Follows (
       let i : length (entryWords new) ≤ ir' = omega arith in
       let R = new-run xs n b (st .book) C O ys I (starting (asCell slash unit cr2 ir2) .book) (st2 .book) p q p2 (p + (q2 - p2)) cr' ir' s1
       (new-stands s t xs ys n b C I T U (sym (f2 .tokens))) s3 refl (sym un ∙ sym u) (S2 .told) c i in
-      let L = by-run cr' ir' h' sl un tot R in
+      let L = by-run cr' ir' h' sl un tot s1 R in
       subst (λ (z : List ℕ). Law z cr' ir' (cellFrom (suc n) xs) (cellTo (suc n) xs) (cellFrom 1 ys) (cellTo 1 ys)) (sym (same-file s t xs ys n b C I T U))
       (rw (from1 s t xs ys n b C I T U, to1 s t xs ys n b C I T U, from2 s t xs ys n b C I T U, to2 s t xs ys n b C I T U) L)
 
@@ -219,7 +258,7 @@ pub splice-taken : (cr ir : ℕ) (s : List ℕ) (st : At) (xs : List Taken) (k c
     readCell (st .book .slash) (st .book .unit) cr2 ir2 t ≡ fine st2 → Follows (asCell (st .book .slash) (st .book .unit) cr2 ir2) t ys →
     length (newFile s xs k t ys) ≤ textLimit → length (st .book .log .cells) ≤ cr' →
     length (st .book .log .items) - entriesAt (k - 1) st + length (st2 .book .log .items) ≤ ir' →
-    (st' : At) × (readFile cr' ir' (newFile s xs k t ys) ≡ fine st') × Spliced k (cellFrom k xs) (cellTo k xs) (cellFrom 1 ys) (cellTo 1 ys) st st2 st'
+    (st' : At) × (readFile cr' ir' (newFile s xs k t ys) ≡ fine st') × Spliced s t (newFile s xs k t ys) k (cellFrom k xs) (cellTo k xs) (cellFrom 1 ys) (cellTo 1 ys) st st2 st'
 splice-taken cr ir s st xs zero cr2 ir2 t st2 ys cr' ir' e f h k e2 f2 l rc ri = absurd (omega arith)
 splice-taken cr ir s st xs (suc n) cr2 ir2 t st2 ys cr' ir' e f h k e2 f2 l rc ri =
     let S = read-says cr ir s st xs e f in
@@ -243,7 +282,7 @@ pub splice : (cr ir : ℕ) (s : List ℕ) (st : At) (k cr2 ir2 : ℕ) (t : List 
     length (newFileOf s k (st .book .slash) t) ≤ textLimit → length (st .book .log .cells) ≤ cr' →
     length (st .book .log .items) - entriesAt (k - 1) st + length (st2 .book .log .items) ≤ ir' →
     (st' : At) × (readFile cr' ir' (newFileOf s k (st .book .slash) t) ≡ fine st')
-    × Spliced k (cellFrom k (takenOf file s)) (cellTo k (takenOf file s)) (cellFrom 1 (takenOf (oneCell (st .book .slash)) t))
+    × Spliced s t (newFileOf s k (st .book .slash) t) k (cellFrom k (takenOf file s)) (cellTo k (takenOf file s)) (cellFrom 1 (takenOf (oneCell (st .book .slash)) t))
     (cellTo 1 (takenOf (oneCell (st .book .slash)) t)) st st2 st'
 unfolding newFileOf
 splice cr ir s st k cr2 ir2 t st2 cr' ir' e h i e2 l rc ri =
