@@ -18,7 +18,7 @@ use Rattle.grammar.specs.Outcome.{noLog}
 use Rattle.laws.specs.Taken.{Taken, toks, tells}
 use Rattle.laws.specs.Behind.{then-fine}
 use Rattle.sound.specs.Sound.{Each}
-use Rattle.splice.specs.Along.{Goes, stream-goes, goes-stream, goes-split}
+use Rattle.splice.specs.Along.{moveTok, Goes, stream-goes, goes-stream, goes-split}
 use Rattle.splice.specs.Swap.{swapped}
 use Rattle.splice.specs.Moved.{moveCell, moveItem}
 use Rattle.splice.specs.Span.{Begins, Tail}
@@ -261,3 +261,12 @@ pub same-items : (a l l' m m' : List Item) → (a ++ l) ++ m ≡ (a ++ l') ++ m'
 same-items a l l' m m' e h =
     let f : l ++ m ≡ l' ++ m' = append-cancel-left a (l ++ m) (l' ++ m') (sym (append-assoc a l m) ∙ (e ∙ append-assoc a l' m')) in
     sym (drop-at l m (length l) refl) ∙ (ap (drop (length l)) f ∙ drop-at l' m' (length l) (sym h))
+
+-- THE WORDS: 'A word of the new file is the same word as the one its bytes come from.' The file's tokens before its cell, the incoming text's, and the
+-- file's behind its cell: of the same kinds, with the same bytes, at other places
+pub record Words (s t n : List ℕ) (p q p' q' : ℕ) : Type 0 where
+  pub before : List Placed
+  pub outgoing : List Placed
+  pub behind : List Placed
+  pub old : stream s 0 .toks ≡ before ++ (outgoing ++ behind)
+  pub new : stream n 0 .toks ≡ before ++ (map (moveTok p' p) (stream t 0 .toks) ++ map (moveTok q (p + (q' - p'))) behind)

@@ -4,12 +4,13 @@ use mathlib.Core.Path.{_≡_, refl, sym, ap, subst, _∙_}
 use mathlib.Core.Bool.{Bool, true, false}
 use mathlib.Core.List.{List, [], _∷_, _++_, append-nil, append-assoc}
 use mathlib.Core.Logic.{_⊎_, inl, inr, ⊎-elim}
-use Prim.Native.Nat.{ℕ, zero, suc, _+_, _-_, _≤_, _<_}
+use Prim.Native.Nat.{ℕ, zero, suc, _+_, _-_, _*_, _≤_, _<_}
 use native.Mathlib.Nat.{zero-add}
 use native.Mathlib.Omega.{arith}
-use lib.Dec.{eqb, leb}
-use lib.ListN.{length, take, drop, length-append}
-use borrow.Author.Tests.{leb-true, leb-false, le-leb, lt-leb}
+use lib.Dec.{eqb, leb, ltb}
+use lib.ListN.{length, take, drop, getD, set, length-append, length-set, replicate, getD-replicate, List·getD-eq-default}
+use lib.Seq.{getD-set-same, getD-set-other, set-out}
+use borrow.Author.Tests.{leb-true, leb-false, le-leb, lt-leb, eqb-true, eqb-false, ltb-true, ltb-false}
 use Rattle.classes.specs.Choice.{pick}
 use Rattle.tokens.specs.Stream.{Placed, part}
 use Rattle.names.specs.Name.{partOf}
@@ -277,3 +278,95 @@ cells-stay x z z' cs h = each-same (NearCell 0 (length x)) _ (λ c n. (part-stay
 
 pub items-stay : (x z z' : List ℕ) (is : List Item) → Each (NearItem 0 (length x)) is → Each (λ i. SameItem (x ++ z') i (x ++ z) i) is
 items-stay x z z' is h = each-same (NearItem 0 (length x)) _ (λ i n. (part-stays x z z' _ _ (n .first), part-stays x z z' _ _ (n .second))) is h
+
+-- THE HEADER'S TEXTS: fourteen places, two to a text
+abbrev pub NearTexts : ℕ → List ℕ → Type 0
+NearTexts hi l = (length l ≡ 14) × ((i : ℕ) → Near 0 hi (getD l (2 * i) 0) (getD l (2 * i + 1) 0))
+
+set-texts : (hi : ℕ) (l : List ℕ) (k b e : ℕ) → Near 0 hi b e → NearTexts hi l → NearTexts hi (set (set l (2 * k) b) (2 * k + 1) e)
+set-texts hi l k b e m (n, h) = (length-set (set l (2 * k) b) (2 * k + 1) e ∙ (length-set l (2 * k) b ∙ n), λ i. by i (eqb i k) refl (leb 7 k) refl)
+  where
+    by : (i : ℕ) (v : Bool) → eqb i k ≡ v → (w : Bool) → leb 7 k ≡ w →
+        Near 0 hi (getD (set (set l (2 * k) b) (2 * k + 1) e) (2 * i) 0) (getD (set (set l (2 * k) b) (2 * k + 1) e) (2 * i + 1) 0)
+    by i v f true g =
+        let z = leb-true 7 k g in
+        rw (set-out l (2 * k) b (omega arith), set-out l (2 * k + 1) e (omega arith)) (h i)
+    by i true f false g =
+        let z = leb-false 7 k g in
+        let y = eqb-true i k f in
+        let x : getD (set (set l (2 * k) b) (2 * k + 1) e) (2 * i) 0 ≡ b =
+            rw y (getD-set-other (set l (2 * k) b) (2 * k + 1) (2 * k) e 0 (λ q. omega arith) ∙ getD-set-same l (2 * k) b 0 (omega arith)) in
+        let w : getD (set (set l (2 * k) b) (2 * k + 1) e) (2 * i + 1) 0 ≡ e =
+            rw y (getD-set-same (set l (2 * k) b) (2 * k + 1) e 0 (omega (arith, length-set l (2 * k) b))) in
+        rw (x, w) m
+    by i false f false g =
+        let y = eqb-false i k f in
+        let x : getD (set (set l (2 * k) b) (2 * k + 1) e) (2 * i) 0 ≡ getD l (2 * i) 0 =
+            getD-set-other (set l (2 * k) b) (2 * k + 1) (2 * i) e 0 (λ q. omega arith) ∙ getD-set-other l (2 * k) (2 * i) b 0 (λ q. y (omega arith)) in
+        let w : getD (set (set l (2 * k) b) (2 * k + 1) e) (2 * i + 1) 0 ≡ getD l (2 * i + 1) 0 =
+            getD-set-other (set l (2 * k) b) (2 * k + 1) (2 * i + 1) e 0 (λ q. y (omega arith)) ∙ getD-set-other l (2 * k) (2 * i + 1) b 0 (λ q. omega arith) in
+        rw (x, w) (h i)
+
+note-texts : (hi : ℕ) (k : Note) (t : Placed) (l : Log) → 1 ≤ t .start → t .start < t .end → t .end ≤ hi → NearTexts hi (l .texts) →
+    NearTexts hi (noted k t l .texts)
+note-texts hi skip t l a b c h = h
+note-texts hi (heading k) t l a b c h = set-texts hi (l .texts) k (t .start + 1) (t .end - 1) (quoted-near 0 hi [] [] (t .start) (t .end) (omega arith) a b c) h
+note-texts hi type t l a b c h = h
+note-texts hi top t l a b c h = h
+note-texts hi named t l a b c h = h
+note-texts hi any t l a b c h = h
+note-texts hi finish t l a b c h = h
+note-texts hi (edged i) t l a b c h = h
+note-texts hi (end i) t l a b c h = h
+note-texts hi (plain i) t l a b c h = h
+note-texts hi G.none t l a b c h = h
+note-texts hi empty t l a b c h = h
+note-texts hi all t l a b c h = h
+note-texts hi whole t l a b c h = h
+note-texts hi close t l a b c h = h
+
+texts-simply : (hi : ℕ) (v : Bool) (n s : ℕ) (d₀ d : Book) → NearTexts hi (d₀ .log .texts) → pick v (bad n s) (fine d₀) ≡ fine d → NearTexts hi (d .log .texts)
+texts-simply hi v n s d₀ d h e = subst (λ (x : Book). NearTexts hi (x .log .texts)) (fine-inj (pick-fine v n s (fine d₀) d e .1)) h
+
+act-texts : (hi : ℕ) (b : Book) (c : Cls) (x : Act) (t : Placed) (d : Book) → 1 ≤ t .start → t .start < t .end → t .end ≤ hi → judgeBy b c x t ≡ fine d →
+    NearTexts hi (b .log .texts) → NearTexts hi (d .log .texts)
+act-texts hi b c (note n) t d q r s e h = texts-simply hi (overlong c t) 8 (t .start) _ d (note-texts hi n t (b .log) q r s h) e
+act-texts hi b c (divide w) t d q r s e h = texts-simply hi (overlong c t) 8 (t .start) _ d h e
+act-texts hi b c scaled t d q r s e h = texts-simply hi (overlong c t) 8 (t .start) _ d h e
+act-texts hi b c unity t d q r s e h = texts-simply hi (overlong c t) 8 (t .start) _ d h e
+act-texts hi b c joined t d q r s e h = texts-simply hi (overlong c t) 8 (t .start) _ d h e
+act-texts hi b c cell t d q r s e h = texts-simply hi (eqb (b .cellRoom) 0) 9 (t .start) _ d h (pick-fine (overlong c t) 8 (t .start) _ d e .1)
+act-texts hi b c (entry g) t d q r s e h = texts-simply hi (eqb (b .itemRoom) 0) 9 (t .start) _ d h (pick-fine (overlong c t) 8 (t .start) _ d e .1)
+act-texts hi b c (time w k) t d q r s e h = by (numberOf w (b .unit) (t .bytes)) e
+  where
+    by : (v : Number) → timed b c k t v ≡ fine d → NearTexts hi (d .log .texts)
+    by (number.Time z) e = texts-simply hi (overlong c t) 8 (t .start) _ d h e
+    by number.Fine e = absurd (bad≢fine e)
+    by number.Beyond e = absurd (bad≢fine e)
+    by number.Wrong e = absurd (bad≢fine e)
+
+pub all-texts : (hi : ℕ) (xs : List Taken) (b d : Book) → Each (Within 0 hi) xs → tells b xs ≡ fine d → NearTexts hi (b .log .texts) → NearTexts hi (d .log .texts)
+unfolding judges
+all-texts hi [] b d s e h = subst (λ (x : Book). NearTexts hi (x .log .texts)) (fine-inj e) h
+all-texts hi (x ∷ xs) b d ((p, q, r, s), ss) e h =
+    let (y, f, g) = then-fine (judge b (x .by) (x .tok)) (λ y. tells y xs) d e in
+    all-texts hi xs y d ss g (act-texts hi b (x .by .cls) (x .by .act) (x .tok) y q r s f h)
+
+-- no text of the header stands anywhere
+pub no-texts : (hi : ℕ) → NearTexts hi (replicate 14 0)
+no-texts hi = (refl, λ i. by i (ltb (2 * i) 14) refl (ltb (2 * i + 1) 14) refl)
+  where
+    zero-there : (j : ℕ) (v : Bool) → ltb j 14 ≡ v → _≡_ {A = ℕ} (getD (replicate 14 0) j 0) 0
+    zero-there j true e = getD-replicate 14 j 0 0 (ltb-true j 14 e)
+    zero-there j false e = List·getD-eq-default (replicate 14 0) 0 (ltb-false j 14 e)
+
+    by : (i : ℕ) (v : Bool) → ltb (2 * i) 14 ≡ v → (w : Bool) → ltb (2 * i + 1) 14 ≡ w →
+        Near 0 hi (getD (replicate 14 0) (2 * i) 0) (getD (replicate 14 0) (2 * i + 1) 0)
+    by i v e w f = inl (zero-there (2 * i) v e, zero-there (2 * i + 1) w f)
+
+-- the header's texts have the same bytes in two texts
+abbrev pub SameTexts : List ℕ → List ℕ → List ℕ → Type 0
+SameTexts s s' l = (i : ℕ) → partOf s' (getD l (2 * i) 0) (getD l (2 * i + 1) 0) ≡ partOf s (getD l (2 * i) 0) (getD l (2 * i + 1) 0)
+
+pub texts-stay : (x z z' : List ℕ) (l : List ℕ) → NearTexts (length x) l → SameTexts (x ++ z') (x ++ z) l
+texts-stay x z z' l (n, h) i = part-stays x z z' _ _ (h i)

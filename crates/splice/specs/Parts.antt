@@ -376,7 +376,7 @@ all-of : (d : Bool) (ys : List Taken) (I : Incoming d ys) (U : Tail (I .cs)) →
 all-of d ys I U =
     ap toks (I .split) ∙ ap (λ (l : List Placed). I .o .tok ∷ (I .w .tok ∷ l)) (ap toks (U .split) ∙ toks-append (U .ms) (U .x ∷ []))
 
-toks-new : (hs ys zs : List Taken) (a c a' c' : ℕ) →
+pub toks-new : (hs ys zs : List Taken) (a c a' c' : ℕ) →
     toks (newTaken hs ys zs a c a' c') ≡ toks hs ++ (map (moveTok a c) (toks ys) ++ map (moveTok a' c') (toks zs))
 toks-new hs ys zs a c a' c' =
     toks-append hs (map (moveTaken a c) ys ++ map (moveTaken a' c') zs)
