@@ -23,7 +23,7 @@ use Rattle.splice.specs.Swap.{swapped}
 use Rattle.splice.specs.Moved.{moveCell, moveItem}
 use Rattle.splice.specs.Span.{Begins, Tail}
 use Rattle.splice.specs.Carried.{Incoming}
-use Rattle.splice.specs.Near.{Near, NearCell, NearItem, NearEntry, NearLog, Within, all-near, SameCell, SameItem, cells-move, items-move, cells-stay, items-stay}
+use Rattle.splice.specs.Near.{Near, NearCell, NearItem, NearEntry, NearLog, Within, all-near, SameCell, SameItem, cells-move, items-move, cells-stay, items-stay, NearTexts, all-texts, no-texts, SameTexts, texts-stay}
 use Rattle.splice.specs.Parts.{toks-append}
 
 -- TOKENS IN ORDER, up to the end of the last of them
@@ -98,6 +98,19 @@ front-near s (x ∷ hs) o r b b1 h e l t =
     all-near 0 (o .tok .start) [] [] hs (told b (x .tok) (b .log)) b1 (within-them 0 (o .tok .start) (x .tok .end) (O .q) hs (omega arith) (omega arith) u (O .each))
     (sym (at-opener x hs b h) ∙ t) (nothing-near 0 (o .tok .start) _ [] [] (b .log) l)
 
+pub front-texts : (s : List ℕ) (hs : List Taken) (o : Taken) (r : List Taken) (b b1 : Book) → Begins hs → stream s 0 .toks ≡ toks (hs ++ (o ∷ r)) →
+    b .log ≡ noLog → tells b hs ≡ fine b1 → NearTexts (o .tok .start) (b1 .log .texts)
+unfolding judges
+front-texts s [] o r b b1 h e l t =
+    subst (λ (x : Log). NearTexts (o .tok .start) (x .texts)) (sym (ap (λ (x : Book). x .log) (sym (fine-inj t)) ∙ l)) (no-texts (o .tok .start))
+front-texts s (x ∷ hs) o r b b1 h e l t =
+    let O = order s [] x hs (o ∷ r) e in
+    let (q1, (g1, b1', n1), i1, j1, k1) = stream-goes s (o .tok ∷ []) (toks r) (O .q) (O .fits) (O .next) in
+    let (u, v, w) = onwards s (O .q) _ _ _ _ (O .fits) g1 in
+    let a = O .ahead in
+    all-texts (o .tok .start) hs (told b (x .tok) (b .log)) b1 (within-them 0 (o .tok .start) (x .tok .end) (O .q) hs (omega arith) (omega arith) u (O .each))
+    (sym (at-opener x hs b h) ∙ t) (subst (λ (y : Log). NearTexts (o .tok .start) (y .texts)) (sym l) (no-texts (o .tok .start)))
+
 -- THE INCOMING CELL
 pub incoming-near : (t : List ℕ) (d : Bool) (ys : List Taken) (I : Incoming d ys) (U : Tail (I .cs)) (b e : Book) → stream t 0 .toks ≡ toks ys → b .log ≡ noLog →
     tells b ys ≡ fine e →
@@ -142,9 +155,10 @@ behind-near s us x zs b2 e ts cs is h l t =
     )
 
 -- THE BYTES. s is the file, t the incoming text, n the new file; the old cell stands from p to q, the incoming one from p' to q'
-pub record Named (s t n : List ℕ) (p q p' q' : ℕ) (front : List Cell) (frontItems : List Item) (incoming : List Cell) (items : List Item) (behind : List Cell)
+pub record Named (s t n : List ℕ) (p q p' q' : ℕ) (texts : List ℕ) (front : List Cell) (frontItems : List Item) (incoming : List Cell) (items : List Item) (behind : List Cell)
     (behindItems : List Item) : Type 0 where
-  -- before the cell: as in the file, at the same place
+  -- the header's texts and what stands before the cell: as in the file, at the same place
+  pub textsSame : SameTexts s n texts
   pub frontSame : Each (λ c. SameCell s c n c) front
   pub frontItemsSame : Each (λ i. SameItem s i n i) frontItems
   -- the incoming cell: as in the incoming text
@@ -177,6 +191,11 @@ module _ (s t : List ℕ) (p q p' q' : ℕ) (h : p ≤ length s) (k : q ≤ leng
   fronts cs e =
       subst (λ (x : List ℕ). Each (λ c. SameCell x c new c) cs) (take-append-drop p s)
       (cells-stay (take p s) (part p' q' t ++ drop q s) (drop p s) cs (subst (λ (x : ℕ). Each (NearCell 0 x) cs) (sym front-size) e))
+
+  same-texts : (l : List ℕ) → NearTexts p l → SameTexts s new l
+  same-texts l e =
+      subst (λ (x : List ℕ). SameTexts x new l) (take-append-drop p s)
+      (texts-stay (take p s) (part p' q' t ++ drop q s) (drop p s) l (subst (λ (x : ℕ). NearTexts x l) (sym front-size) e))
 
   front-items : (is : List Item) → Each (NearItem 0 p) is → Each (λ c. SameItem s c new c) is
   front-items is e =
@@ -239,10 +258,11 @@ module _ (s t : List ℕ) (p q p' q' : ℕ) (h : p ≤ length s) (k : q ≤ leng
       (subst (λ (x : ℕ). Each (NearItem x (length (take q s) + length (drop q s))) is) (sym end-size) (subst (λ (x : ℕ). Each (NearItem q x) is) (sym all-size) e))))))
 
   -- all of them
-  pub named : (fc ic bc : List Cell) (fi ii bi : List Item) → Each (NearCell 0 p) fc → Each (NearItem 0 p) fi → Each (NearCell p' q') ic →
-      Each (NearItem p' q') ii → Each (NearCell q (length s)) bc → Each (NearItem q (length s)) bi → Named s t new p q p' q' fc fi ic ii bc bi
-  named fc ic bc fi ii bi a b c d e f =
+  pub named : (texts : List ℕ) (fc ic bc : List Cell) (fi ii bi : List Item) → NearTexts p texts → Each (NearCell 0 p) fc → Each (NearItem 0 p) fi → Each (NearCell p' q') ic →
+      Each (NearItem p' q') ii → Each (NearCell q (length s)) bc → Each (NearItem q (length s)) bi → Named s t new p q p' q' texts fc fi ic ii bc bi
+  named texts fc ic bc fi ii bi w a b c d e f =
       record {
+        textsSame = same-texts texts w;
         frontSame = fronts fc a;
         frontItemsSame = front-items fi b;
         incomingSame = ins ic c;

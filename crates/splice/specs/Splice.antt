@@ -20,10 +20,11 @@ use Rattle.laws.specs.Taken.{asFile, asCell, starting, file-is, Taken, toks, te
 use Rattle.laws.specs.Behind.{Fed, fed, reaches}
 use Rattle.laws.specs.Exactly.{Follows, Says, read-exactly, cell-exactly, read-says, cell-says, whole}
 use Rattle.sound.specs.Sound.{Each, total, read-sound}
+use Rattle.splice.specs.Along.{moveTok}
 use Rattle.splice.specs.Moved.{moveCell, moveItem, moveTaken}
 use Rattle.splice.specs.OneCell.{Stands, Done, Adds}
-use Rattle.splice.specs.Near.{NearCell, NearItem, NearLog}
-use Rattle.splice.specs.Names.{Named, named, front-near, incoming-near, behind-near, token-inside, behind-cells, same-items}
+use Rattle.splice.specs.Near.{NearCell, NearItem, NearLog, NearTexts}
+use Rattle.splice.specs.Names.{Words, Named, named, front-near, front-texts, incoming-near, behind-near, token-inside, behind-cells, same-items}
 use Rattle.splice.specs.Several.{count-moved}
 use Rattle.splice.specs.Span.{cellFrom, cellTo, newFile, takenOf, taken-is, newFileOf, CellAt, cell-at, Tail, tail-of}
 use Rattle.splice.specs.Carried.{Incoming, incoming, newTaken, new-carried}
@@ -35,6 +36,8 @@ use Rattle.splice.specs.Parts.{
   old-cell,
   old-keeps,
   file-begins,
+  toks-append,
+  toks-new,
   old-entries,
   entriesAt,
   NewRun,
@@ -81,8 +84,10 @@ pub record Spliced (s t n : List ℕ) (k p q p' q' : ℕ) (st st2 st' : At) : Ty
   pub slash : st' .book .slash ≡ st .book .slash
   pub unit : st' .book .unit ≡ st .book .unit
   pub stack : st' .stack ≡ []
-  -- 'After the swap a name's bytes stand in the old file or in the incoming cell.'
-  pub names : Named s t n p q p' q' front frontItems (incoming ∷ []) (st2 .book .log .items) behind behindItems
+  -- 'A word of the new file is the same word as the one its bytes come from.' 'After the swap a name's bytes stand in the old file or in the
+  -- incoming cell.'
+  pub words : Words s t n p q p' q'
+  pub names : Named s t n p q p' q' (st .book .log .texts) front frontItems (incoming ∷ []) (st2 .book .log .items) behind behindItems
 
 regrouped : (f : Item → Item) (ts ts' : List ℕ) (a : List Cell) (x : Cell) (b : List Cell) (c d d' e : List Item) (l : Log) → ts ≡ ts' → d ≡ d' →
     l ≡ tidy ts ((a ++ x ∷ []) ++ b) ((c ++ map f d) ++ e) → l ≡ tidy ts' (a ++ x ∷ b) (c ++ (map f d' ++ e))
@@ -91,10 +96,11 @@ regrouped f ts ts' a x b c d d' e l p q h = h ∙ rw (append-snoc a x b, append-
 -- from the runs of the parts
 spliced-by : (sT tT nT : List ℕ) (n p q p' q' cr ir : ℕ) (b b1 : Book) (hs ys zs : List Taken) (st st2 : At) (R : NewRun b (st .book) b1 (st2 .book) hs ys zs p q p' (p + (q' - p')) cr ir) →
     length (b1 .log .cells) ≡ n → total (st .book .log .cells) ≡ length (st .book .log .items) → st .book .slash ≡ b1 .slash → st .book .unit ≡ b1 .unit →
-    Named sT tT nT p q p' q' (b1 .log .cells) (b1 .log .items) (R .new ∷ []) (st2 .book .log .items) (R .behindCells) (R .behindItems) →
+    Words sT tT nT p q p' q' →
+    Named sT tT nT p q p' q' (st .book .log .texts) (b1 .log .cells) (b1 .log .items) (R .new ∷ []) (st2 .book .log .items) (R .behindCells) (R .behindItems) →
     Spliced sT tT nT (suc n) p q p' q' st st2 (record { stack = []; book = R .e' })
 unfolding total
-spliced-by sT tT nT n p q p' q' cr ir b b1 hs ys zs st st2 R c t s u names =
+spliced-by sT tT nT n p q p' q' cr ir b b1 hs ys zs st st2 R c t s u words names =
     let x : st .book .log .cells ≡ b1 .log .cells ++ R .outgoing ∷ R .behindCells =
     ap (λ (l : Log). l .cells) (R .oldLog) ∙ append-snoc (b1 .log .cells) (R .outgoing) (R .behindCells) in
     let y : st .book .log .items ≡ b1 .log .items ++ (R .outItems ++ R .behindItems) =
@@ -124,6 +130,7 @@ spliced-by sT tT nT n p q p' q' cr ir b b1 hs ys zs st st2 R c t s u names =
       slash = R .slash' ∙ sym s;
       unit = R .unit' ∙ sym u;
       stack = refl;
+      words = words;
       names = names;
     }
 
@@ -188,9 +195,23 @@ module _ (cr ir : ℕ) (s : List ℕ) (st : At) (xs : List Taken) (f : Follows (
   abbrev Law : List ℕ → ℕ → ℕ → ℕ → ℕ → ℕ → ℕ → Type 0
   Law m cr' ir' p q p2 q2 = (st' : At) × (readFile cr' ir' m ≡ fine st') × Spliced s t m (suc n) p q p2 q2 st st2 st'
 
+  -- the words
+  new-words : Words s t (N s t xs ys n b C I T U) p q p2 q2
+  new-words =
+      record {
+        before = toks (C .hs);
+        outgoing = toks (C .o ∷ C .w ∷ C .cs);
+        behind = toks (C .zs);
+        old = sym (f .tokens) ∙ (ap toks (C .split) ∙ (toks-append (C .hs) (C .o ∷ C .w ∷ (C .cs ++ C .zs))
+            ∙ ap (λ (l : List Placed). toks (C .hs) ++ l) (toks-append (C .o ∷ C .w ∷ C .cs) (C .zs))));
+        new = new-tokens s t xs ys n b C I T U (sym (f .tokens)) (sym (f2 .tokens)) .0
+            ∙ (toks-new (C .hs) ys (C .zs) p2 p q (p + (q2 - p2))
+            ∙ ap (λ (l : List Placed). toks (C .hs) ++ (map (moveTok p2 p) l ++ map (moveTok q (p + (q2 - p2))) (toks (C .zs)))) (f2 .tokens));
+      }
+
   -- the names' bytes
   new-names : (cr' ir' : ℕ) (R : NewRun b (st .book) (O .b1) (st2 .book) (C .hs) ys (C .zs) p q p2 (p + (q2 - p2)) cr' ir') → Each (Stands 0) (C .w ∷ C .cs) →
-      Named s t (N s t xs ys n b C I T U) p q p2 q2 (O .b1 .log .cells) (O .b1 .log .items) (R .new ∷ []) (st2 .book .log .items) (R .behindCells) (R .behindItems)
+      Named s t (N s t xs ys n b C I T U) p q p2 q2 (st .book .log .texts) (O .b1 .log .cells) (O .b1 .log .items) (R .new ∷ []) (st2 .book .log .items) (R .behindCells) (R .behindItems)
   new-names cr' ir' R s1 = by (old-cell xs n b (st .book) C O s1)
     where
       tokens1 : stream s 0 .toks ≡ toks (C .hs ++ (C .o ∷ C .w ∷ (C .cs ++ C .zs)))
@@ -203,7 +224,7 @@ module _ (cr ir : ℕ) (s : List ℕ) (st : At) (xs : List Taken) (f : Follows (
 
       by : Adds 0 0 (O .b1 .log .texts) (O .b1 .log .texts) (O .b1 .log .cells) (O .b1 .log .cells) (O .b1 .log .items) (O .b1 .log .items) (O .b1) (O .b1) (O .b2)
           (C .o ∷ C .w ∷ C .cs) →
-          Named s t (N s t xs ys n b C I T U) p q p2 q2 (O .b1 .log .cells) (O .b1 .log .items) (R .new ∷ []) (st2 .book .log .items) (R .behindCells) (R .behindItems)
+          Named s t (N s t xs ys n b C I T U) p q p2 q2 (st .book .log .texts) (O .b1 .log .cells) (O .b1 .log .items) (R .new ∷ []) (st2 .book .log .items) (R .behindCells) (R .behindItems)
       by A =
           let F = front-near s (C .hs) (C .o) (C .w ∷ (C .cs ++ C .zs)) b (O .b1) (file-begins (C .hs) (C .l) (C .front)) tokens1 refl (O .t1) in
           let (g1, g2, G) = incoming-near t (C .d) ys I U (starting (asCell slash unit cr2 ir2) .book) (st2 .book) (sym (f2 .tokens)) refl (S2 .told) in
@@ -212,7 +233,9 @@ module _ (cr ir : ℕ) (s : List ℕ) (st : At) (xs : List Taken) (f : Follows (
           let (c1, c2) = behind-cells (O .b1 .log .cells) (R .outgoing) (A .done .cell) (R .behindCells) (H .newCells) (sym (ap (λ (l : Log). l .cells) (R .oldLog)) ∙ H .cells) in
           let e = same-items (O .b1 .log .items) (R .outItems) (A .done .new) (R .behindItems) (H .newItems) (sym (ap (λ (l : Log). l .items) (R .oldLog)) ∙ H .items)
           (sym (R .outCount) ∙ (ap (λ (x : Cell). x .entries) c1 ∙ A .done .count)) in
-          named s t p q p2 q2 (omega arith) h1 g1 g2 (O .b1 .log .cells) (R .new ∷ []) (R .behindCells) (O .b1 .log .items) (st2 .book .log .items) (R .behindItems)
+          let X = front-texts s (C .hs) (C .o) (C .w ∷ (C .cs ++ C .zs)) b (O .b1) (file-begins (C .hs) (C .l) (C .front)) tokens1 refl (O .t1) in
+          named s t p q p2 q2 (omega arith) h1 g1 g2 (st .book .log .texts) (O .b1 .log .cells) (R .new ∷ []) (R .behindCells) (O .b1 .log .items) (st2 .book .log .items) (R .behindItems)
+          (subst (λ (x : List ℕ). NearTexts p x) (sym (ap (λ (l : Log). l .texts) (R .oldLog))) X)
           (subst (λ (x : List Cell). Each (NearCell 0 p) x) (sym (F .cells)) (F .eachCell)) (subst (λ (x : List Item). Each (NearItem 0 p) x) (sym (F .items)) (F .eachItem))
           (subst (λ (x : List Cell). Each (NearCell p2 q2) x) (sym (G .cells) ∙ ap (λ (l : Log). l .cells) (R .inLog)) (G .eachCell))
           (subst (λ (x : List Item). Each (NearItem p2 q2) x) (sym (G .items)) (G .eachItem))
@@ -230,7 +253,7 @@ module _ (cr ir : ℕ) (s : List ℕ) (st : At) (xs : List Taken) (f : Follows (
             (ap (runs (starting (asFile cr' ir'))) u ∙ reaches (asFile cr' ir') new [] (R .e') (new-carried xs n b C ys I p2 p q (p + (q2 - p2))) (R .told'))
             (v ∙ f .ended),
         spliced-by s t (N s t xs ys n b C I T U) n p q p2 q2 cr' ir' b (O .b1) (C .hs) ys (C .zs) st st2 R (sizes (asFile cr ir) xs n (st .book) C O .cells1 ∙ C .number) tot
-            (sl ∙ sym (O .slash1)) un (new-names cr' ir' R s1),
+            (sl ∙ sym (O .slash1)) un new-words (new-names cr' ir' R s1),
       )
 
   by-parts : (cr' ir' : ℕ) → unit ≡ st .book .unit → length (newFile s xs (suc n) t ys) ≤ textLimit → length (st .book .log .cells) ≤ cr' →
