@@ -75,9 +75,10 @@ nothing-near lo hi ts cs is l e =
       items = sym (append-nil is);
       eachCell = tt;
       eachItem = tt;
+      place = inl refl;
       type = inl (refl, refl);
       path = inl (refl, refl);
-      head = record { first = inl (refl, refl); second = inl (refl, refl) };
+      head = record { place = inl refl; first = inl (refl, refl); second = inl (refl, refl) };
     })
 
 at-opener : (o : Taken) (xs : List Taken) (b : Book) → o .by ≡ opens → tells b (o ∷ xs) ≡ tells (told b (o .tok) (b .log)) xs

@@ -79,11 +79,17 @@ use Rattle.splice.specs.Moved.{moveAt, move-none, move-some, moveCell, m
 abbrev pub Near : ℕ → ℕ → ℕ → ℕ → Type 0
 Near lo hi b e = ((b ≡ 0) × (e ≡ 0)) ⊎ ((lo ≤ b) × (b ≤ hi) × (lo ≤ e) × (e ≤ hi) × (1 ≤ b) × (1 ≤ e))
 
+-- a keyword that stands there, or none
+abbrev pub NearAt : ℕ → ℕ → ℕ → Type 0
+NearAt lo hi x = (x ≡ 0) ⊎ ((lo ≤ x) × (x < hi))
+
 pub record NearCell (lo hi : ℕ) (c : Cell) : Type 0 where
+  pub place : NearAt lo hi (c .place)
   pub type : Near lo hi (c .typefrom) (c .typeto)
   pub path : Near lo hi (c .pathfrom) (c .pathto)
 
 pub record NearEntry (lo hi : ℕ) (h : Entry) : Type 0 where
+  pub place : NearAt lo hi (h .place)
   pub first : Near lo hi (h .from1) (h .to1)
   pub second : Near lo hi (h .from2) (h .to2)
 
@@ -98,6 +104,7 @@ pub record NearLog (lo hi : ℕ) (cs : List Cell) (is : List Item) (l : Log) : T
   pub items : l .items ≡ is ++ newItems
   pub eachCell : Each (NearCell lo hi) newCells
   pub eachItem : Each (NearItem lo hi) newItems
+  pub place : NearAt lo hi (l .begun .place)
   pub type : Near lo hi (l .begun .typefrom) (l .begun .typeto)
   pub path : Near lo hi (l .begun .pathfrom) (l .begun .pathto)
   pub head : NearEntry lo hi (l .head)
@@ -109,40 +116,40 @@ each-more : {A : Type 0} (P : A → Type 0) (l : List A) (a : A) → Each P l �
 each-more P [] a h p = (p, tt)
 each-more P (x ∷ l) a (y, h) p = (y, each-more P l a h p)
 
-no-entry : (lo hi k g p : ℕ) → NearEntry lo hi (headOf k g p)
-no-entry lo hi k g p = record { first = inl (refl, refl); second = inl (refl, refl) }
+no-entry : (lo hi k g p : ℕ) → NearAt lo hi p → NearEntry lo hi (headOf k g p)
+no-entry lo hi k g p h = record { place = h; first = inl (refl, refl); second = inl (refl, refl) }
 
 edge-near : (lo hi : ℕ) (i : Bool) (g : ℕ) (h : Entry) → NearEntry lo hi h → NearEntry lo hi (edgePut i g h)
-edge-near lo hi false g h n = record { first = n .first; second = n .second }
-edge-near lo hi true g h n = record { first = n .first; second = n .second }
+edge-near lo hi false g h n = record { place = n .place; first = n .first; second = n .second }
+edge-near lo hi true g h n = record { place = n .place; first = n .first; second = n .second }
 
 end-near : (lo hi : ℕ) (i : Bool) (g b e : ℕ) (h : Entry) → Near lo hi b e → NearEntry lo hi h → NearEntry lo hi (endPut i g b e h)
-end-near lo hi false g b e h m n = record { first = m; second = n .second }
-end-near lo hi true g b e h m n = record { first = n .first; second = m }
+end-near lo hi false g b e h m n = record { place = n .place; first = m; second = n .second }
+end-near lo hi true g b e h m n = record { place = n .place; first = n .first; second = m }
 
 module _ (lo hi : ℕ) (cs : List Cell) (is : List Item) where
   -- the log with something else in hand
   module _ (l : Log) (h : NearLog lo hi cs is l) where
-    near-cell : (c : Begun) → Near lo hi (c .typefrom) (c .typeto) → Near lo hi (c .pathfrom) (c .pathto) → NearLog lo hi cs is (celled c l)
-    near-cell c t p =
-        record { newCells = h .newCells; newItems = h .newItems; cells = h .cells; items = h .items; eachCell = h .eachCell; eachItem = h .eachItem; type = t; path = p; head = h .head }
+    near-cell : (c : Begun) → NearAt lo hi (c .place) → Near lo hi (c .typefrom) (c .typeto) → Near lo hi (c .pathfrom) (c .pathto) → NearLog lo hi cs is (celled c l)
+    near-cell c pl t p =
+        record { newCells = h .newCells; newItems = h .newItems; cells = h .cells; items = h .items; eachCell = h .eachCell; eachItem = h .eachItem; place = pl; type = t; path = p; head = h .head }
 
     near-head : (e : Entry) → NearEntry lo hi e → NearLog lo hi cs is (headed e l)
     near-head e n =
-        record { newCells = h .newCells; newItems = h .newItems; cells = h .cells; items = h .items; eachCell = h .eachCell; eachItem = h .eachItem; type = h .type; path = h .path; head = n }
+        record { newCells = h .newCells; newItems = h .newItems; cells = h .cells; items = h .items; eachCell = h .eachCell; eachItem = h .eachItem; place = h .place; type = h .type; path = h .path; head = n }
 
     -- nothing that has a place
     near-as : (m : Log) → m .cells ≡ l .cells → m .items ≡ l .items → m .begun ≡ l .begun → m .head ≡ l .head → NearLog lo hi cs is m
     near-as m a b c d =
-        record { newCells = h .newCells; newItems = h .newItems; cells = a ∙ h .cells; items = b ∙ h .items; eachCell = h .eachCell; eachItem = h .eachItem; type = rw c (h .type); path = rw c (h .path); head = rw d (h .head) }
+        record { newCells = h .newCells; newItems = h .newItems; cells = a ∙ h .cells; items = b ∙ h .items; eachCell = h .eachCell; eachItem = h .eachItem; place = rw c (h .place); type = rw c (h .type); path = rw c (h .path); head = rw d (h .head) }
 
     near-finish : NearLog lo hi cs is (finished l)
     near-finish =
-        record { newCells = h .newCells ++ cellOf (l .begun) (length (l .items) - l .begun .before) ∷ []; newItems = h .newItems; cells = ap (λ (x : List Cell). x ++ cellOf (l .begun) (length (l .items) - l .begun .before) ∷ []) (h .cells) ∙ append-assoc cs (h .newCells) (cellOf (l .begun) (length (l .items) - l .begun .before) ∷ []); items = h .items; eachCell = each-more (NearCell lo hi) (h .newCells) (cellOf (l .begun) (length (l .items) - l .begun .before)) (h .eachCell) (record { type = h .type; path = h .path }); eachItem = h .eachItem; type = inl (refl, refl); path = inl (refl, refl); head = h .head }
+        record { newCells = h .newCells ++ cellOf (l .begun) (length (l .items) - l .begun .before) ∷ []; newItems = h .newItems; cells = ap (λ (x : List Cell). x ++ cellOf (l .begun) (length (l .items) - l .begun .before) ∷ []) (h .cells) ∙ append-assoc cs (h .newCells) (cellOf (l .begun) (length (l .items) - l .begun .before) ∷ []); items = h .items; eachCell = each-more (NearCell lo hi) (h .newCells) (cellOf (l .begun) (length (l .items) - l .begun .before)) (h .eachCell) (record { place = h .place; type = h .type; path = h .path }); eachItem = h .eachItem; place = inl refl; type = inl (refl, refl); path = inl (refl, refl); head = h .head }
 
     near-close : NearLog lo hi cs is (entered (itemOf l ∷ []) l)
     near-close =
-        record { newCells = h .newCells; newItems = h .newItems ++ itemOf l ∷ []; cells = h .cells; items = ap (λ (x : List Item). x ++ itemOf l ∷ []) (h .items) ∙ append-assoc is (h .newItems) (itemOf l ∷ []); eachCell = h .eachCell; eachItem = each-more (NearItem lo hi) (h .newItems) (itemOf l) (h .eachItem) (h .head); type = h .type; path = h .path; head = no-entry lo hi 0 0 0 }
+        record { newCells = h .newCells; newItems = h .newItems ++ itemOf l ∷ []; cells = h .cells; items = ap (λ (x : List Item). x ++ itemOf l ∷ []) (h .items) ∙ append-assoc is (h .newItems) (itemOf l ∷ []); eachCell = h .eachCell; eachItem = each-more (NearItem lo hi) (h .newItems) (itemOf l) (h .eachItem) (h .head); place = h .place; type = h .type; path = h .path; head = no-entry lo hi 0 0 0 (inl refl) }
 
   -- a token's bytes, and those between its quotes
   whole-near : (b e : ℕ) → lo ≤ b → 1 ≤ b → b < e → e ≤ hi → Near lo hi b e
@@ -155,10 +162,10 @@ module _ (lo hi : ℕ) (cs : List Cell) (is : List Item) where
       NearLog lo hi cs is (noted k t l)
   note-near skip t l a b c d h = h
   note-near (heading k) t l a b c d h = near-as l h _ refl refl refl refl
-  note-near type t l a b c d h = near-cell l h _ (quoted-near (t .start) (t .end) a b c d) (h .path)
-  note-near top t l a b c d h = near-cell l h _ (h .type) (inl (refl, refl))
-  note-near named t l a b c d h = near-cell l h _ (h .type) (whole-near (t .start) (t .end) a b c d)
-  note-near any t l a b c d h = near-cell l h _ (h .type) (inl (refl, refl))
+  note-near type t l a b c d h = near-cell l h _ (h .place) (quoted-near (t .start) (t .end) a b c d) (h .path)
+  note-near top t l a b c d h = near-cell l h _ (h .place) (h .type) (inl (refl, refl))
+  note-near named t l a b c d h = near-cell l h _ (h .place) (h .type) (whole-near (t .start) (t .end) a b c d)
+  note-near any t l a b c d h = near-cell l h _ (h .place) (h .type) (inl (refl, refl))
   note-near finish t l a b c d h = near-finish l h
   note-near (edged i) t l a b c d h = near-head l h _ (edge-near lo hi i _ (l .head) (h .head))
   note-near (end i) t l a b c d h = near-head l h _ (end-near lo hi i _ _ _ (l .head) (whole-near (t .start) (t .end) a b c d) (h .head))
@@ -180,11 +187,11 @@ module _ (lo hi : ℕ) (cs : List Cell) (is : List Item) where
   act-near b c unity t d p q r s e h = near-simply (overlong c t) 8 (t .start) _ d h e
   act-near b c joined t d p q r s e h = near-simply (overlong c t) 8 (t .start) _ d h e
   act-near b c cell t d p q r s e h =
-      near-simply (eqb (b .cellRoom) 0) 9 (t .start) _ d (near-cell (b .log) h _ (inl (refl, refl)) (inl (refl, refl)))
+      near-simply (eqb (b .cellRoom) 0) 9 (t .start) _ d (near-cell (b .log) h _ (inr (p, omega arith)) (inl (refl, refl)) (inl (refl, refl)))
       (pick-fine (overlong c t) 8 (t .start) _ d e .1)
   act-near b c (entry g) t d p q r s e h =
       near-simply (eqb (b .itemRoom) 0) 9 (t .start) _ d
-      (near-as (headed (headOf _ g (t .start)) (b .log)) (near-head (b .log) h _ (no-entry lo hi _ g (t .start))) _ refl refl refl refl)
+      (near-as (headed (headOf _ g (t .start)) (b .log)) (near-head (b .log) h _ (no-entry lo hi _ g (t .start) (inr (p, omega arith)))) _ refl refl refl refl)
       (pick-fine (overlong c t) 8 (t .start) _ d e .1)
   act-near b c (time w k) t d p q r s e h = by (numberOf w (b .unit) (t .bytes)) e
     where
