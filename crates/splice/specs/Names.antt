@@ -2,20 +2,22 @@
 -- Assumes nothing.
 use mathlib.Core.Path.{_≡_, refl, sym, ap, subst, _∙_}
 use mathlib.Core.Bool.{Bool, true, false}
-use mathlib.Core.List.{List, [], _∷_, _++_, map, append-nil, append-assoc, append-cancel-left, tail-eq-of-cons-eq, head-eq-of-cons-eq}
-use mathlib.Core.Logic.{inl}
+use mathlib.Core.List.{List, [], _∷_, _++_, map, append-nil, append-assoc, append-cancel-left, tail-eq-of-cons-eq, head-eq-of-cons-eq, nil≢cons}
+use mathlib.Core.Logic.{inl, inr}
 use Prim.Native.Nat.{ℕ, zero, suc, _+_, _-_, _≤_, _<_}
 use native.Mathlib.Nat.{le-refl}
 use native.Mathlib.Omega.{arith}
 use lib.ListN.{length, take, drop, length-append, length-drop, take-append-drop}
 use lib.Seq.{length-take-le, drop-drop, drop-at, append-snoc}
+use Rattle.classes.specs.Choice.{pick}
 use Rattle.tokens.specs.Stream.{Placed, part, stream, onwards}
 use Rattle.grammar.specs.declared.Cell.{Cell}
 use Rattle.grammar.specs.Machine.{Res, fine, bad, _then_, fine-inj, judges}
-use Rattle.grammar.specs.Grammar.{Term, opens, key, cell, _‼_}
+use Rattle.grammar.specs.Grammar.{Act, note, skip, Term, opens, key, cell, _‼_}
 use Rattle.grammar.specs.Meaning.{Item, Log, Book, noHead, noCell, tidy, told, judge}
 use Rattle.grammar.specs.Outcome.{noLog}
-use Rattle.laws.specs.Taken.{Taken, toks, tells}
+use Rattle.laws.specs.Taken.{Taken, toks, tells, opensCell, opensEntry, those, cellWords, entryWords}
+use Rattle.laws.specs.Log.{starts, itemPlaces, cellPlaces}
 use Rattle.laws.specs.Behind.{then-fine}
 use Rattle.sound.specs.Sound.{Each}
 use Rattle.splice.specs.Along.{moveTok, Goes, stream-goes, goes-stream, goes-split}
@@ -23,7 +25,7 @@ use Rattle.splice.specs.Swap.{swapped}
 use Rattle.splice.specs.Moved.{moveCell, moveItem}
 use Rattle.splice.specs.Span.{Begins, Tail}
 use Rattle.splice.specs.Carried.{Incoming}
-use Rattle.splice.specs.Near.{Near, NearCell, NearItem, NearEntry, NearLog, Within, all-near, SameCell, SameItem, cells-move, items-move, cells-stay, items-stay, NearTexts, all-texts, no-texts, SameTexts, texts-stay}
+use Rattle.splice.specs.Near.{Near, NearAt, NearCell, NearItem, NearEntry, NearLog, Within, all-near, SameCell, SameItem, cells-move, items-move, cells-stay, items-stay, NearTexts, all-texts, no-texts, SameTexts, texts-stay}
 use Rattle.splice.specs.Parts.{toks-append}
 
 -- TOKENS IN ORDER, up to the end of the last of them
@@ -155,6 +157,62 @@ behind-near s us x zs b2 e ts cs is h l t =
           (nothing-near _ _ ts cs is (b2 .log) l),
     )
 
+-- NO KEYWORD STANDS AT THE VERY BEGINNING, where a bracket does
+those-ahead : (f : Act → Bool) (xs : List Taken) → Each (λ v. 1 ≤ v .tok .start) xs → Each (λ t. 1 ≤ t .start) (those f xs)
+those-ahead f [] h = tt
+those-ahead f (x ∷ xs) (a, h) = by (f (x .by .act)) (those-ahead f xs h)
+  where
+    by : (v : Bool) → Each (λ t. 1 ≤ t .start) (those f xs) → Each (λ t. 1 ≤ t .start) (pick v (x .tok ∷ those f xs) (those f xs))
+    by true e = (a, e)
+    by false e = e
+
+all-ahead : (s : List ℕ) (xs : List Taken) (f : Act → Bool) → Begins xs → f (note skip) ≡ false → stream s 0 .toks ≡ toks xs →
+    Each (λ t. 1 ≤ t .start) (those f xs)
+all-ahead s [] f h n e = tt
+all-ahead s (x ∷ xs) f h n e =
+    let O = order s [] x xs [] (e ∙ ap (λ (z : List Taken). toks (x ∷ z)) (sym (append-nil xs))) in
+    let a = O .ahead in
+    let k : f (x .by .act) ≡ false = ap (λ (c : Term). f (c .act)) h ∙ n in
+    rw k (those-ahead f xs (ahead xs (O .q) a (O .each)))
+  where
+    ahead : (vs : List Taken) (q : ℕ) → x .tok .start < x .tok .end → Each (Ordered (x .tok .end) q) vs → Each (λ v. 1 ≤ v .tok .start) vs
+    ahead [] q a e = tt
+    ahead (v ∷ vs) q a ((b, c, d), e) = (omega arith, ahead vs q a e)
+
+pub cells-ahead : (s : List ℕ) (xs : List Taken) (cs : List Cell) → Begins xs → stream s 0 .toks ≡ toks xs → cellPlaces cs ≡ starts (cellWords xs) →
+    Each (λ c. 1 ≤ c .place) cs
+cells-ahead s xs cs h e p = by cs (cellWords xs) p (all-ahead s xs opensCell h refl e)
+  where
+    by : (cs : List Cell) (ts : List Placed) → cellPlaces cs ≡ starts ts → Each (λ t. 1 ≤ t .start) ts → Each (λ c. 1 ≤ c .place) cs
+    by [] ts e h = tt
+    by (c ∷ cs) [] e h = absurd (nil≢cons (sym e))
+    by (c ∷ cs) (t ∷ ts) e (a, h) = (rw (head-eq-of-cons-eq e) a, by cs ts (tail-eq-of-cons-eq e) h)
+
+pub items-ahead : (s : List ℕ) (xs : List Taken) (is : List Item) → Begins xs → stream s 0 .toks ≡ toks xs → itemPlaces is ≡ starts (entryWords xs) →
+    Each (λ i. 1 ≤ i .head .place) is
+items-ahead s xs is h e p = by is (entryWords xs) p (all-ahead s xs opensEntry h refl e)
+  where
+    by : (is : List Item) (ts : List Placed) → itemPlaces is ≡ starts ts → Each (λ t. 1 ≤ t .start) ts → Each (λ i. 1 ≤ i .head .place) is
+    by [] ts e h = tt
+    by (i ∷ is) [] e h = absurd (nil≢cons (sym e))
+    by (i ∷ is) (t ∷ ts) e (a, h) = (rw (head-eq-of-cons-eq e) a, by is ts (tail-eq-of-cons-eq e) h)
+
+-- a keyword's place, between lo and hi
+abbrev pub StandsIn : ℕ → ℕ → ℕ → Type 0
+StandsIn lo hi x = (1 ≤ x) × (lo ≤ x) × (x < hi)
+
+stands-in : (lo hi x : ℕ) → NearAt lo hi x → 1 ≤ x → StandsIn lo hi x
+stands-in lo hi x (inl e) h = absurd (omega arith)
+stands-in lo hi x (inr (a, b)) h = (h, a, b)
+
+cells-stand : (lo hi : ℕ) (cs : List Cell) → Each (NearCell lo hi) cs → Each (λ c. 1 ≤ c .place) cs → Each (λ c. StandsIn lo hi (c .place)) cs
+cells-stand lo hi [] h k = tt
+cells-stand lo hi (c ∷ cs) (a, h) (b, k) = (stands-in lo hi (c .place) (a .place) b, cells-stand lo hi cs h k)
+
+items-stand : (lo hi : ℕ) (is : List Item) → Each (NearItem lo hi) is → Each (λ i. 1 ≤ i .head .place) is → Each (λ i. StandsIn lo hi (i .head .place)) is
+items-stand lo hi [] h k = tt
+items-stand lo hi (i ∷ is) (a, h) (b, k) = (stands-in lo hi (i .head .place) (a .place) b, items-stand lo hi is h k)
+
 -- THE BYTES. s is the file, t the incoming text, n the new file; the old cell stands from p to q, the incoming one from p' to q'
 pub record Named (s t n : List ℕ) (p q p' q' : ℕ) (texts : List ℕ) (front : List Cell) (frontItems : List Item) (incoming : List Cell) (items : List Item) (behind : List Cell)
     (behindItems : List Item) : Type 0 where
@@ -162,12 +220,18 @@ pub record Named (s t n : List ℕ) (p q p' q' : ℕ) (texts : List ℕ) (front 
   pub textsSame : SameTexts s n texts
   pub frontSame : Each (λ c. SameCell s c n c) front
   pub frontItemsSame : Each (λ i. SameItem s i n i) frontItems
+  pub frontAt : Each (λ c. StandsIn 0 p (c .place)) front
+  pub frontItemsAt : Each (λ i. StandsIn 0 p (i .head .place)) frontItems
   -- the incoming cell: as in the incoming text
   pub incomingSame : Each (λ c. SameCell t c n (moveCell p' p c)) incoming
   pub itemsSame : Each (λ i. SameItem t i n (moveItem p' p i)) items
+  pub incomingAt : Each (λ c. StandsIn p' q' (c .place)) incoming
+  pub itemsAt : Each (λ i. StandsIn p' q' (i .head .place)) items
   -- behind the cell: as in the file
   pub behindSame : Each (λ c. SameCell s c n (moveCell q (p + (q' - p')) c)) behind
   pub behindItemsSame : Each (λ i. SameItem s i n (moveItem q (p + (q' - p')) i)) behindItems
+  pub behindAt : Each (λ c. StandsIn q (length s) (c .place)) behind
+  pub behindItemsAt : Each (λ i. StandsIn q (length s) (i .head .place)) behindItems
 
 middle : (t : List ℕ) (p q : ℕ) → p ≤ q → take p t ++ (part p q t ++ drop q t) ≡ t
 middle t p q h =
@@ -260,8 +324,10 @@ module _ (s t : List ℕ) (p q p' q' : ℕ) (h : p ≤ length s) (k : q ≤ leng
 
   -- all of them
   pub named : (texts : List ℕ) (fc ic bc : List Cell) (fi ii bi : List Item) → NearTexts p texts → Each (NearCell 0 p) fc → Each (NearItem 0 p) fi → Each (NearCell p' q') ic →
-      Each (NearItem p' q') ii → Each (NearCell q (length s)) bc → Each (NearItem q (length s)) bi → Named s t new p q p' q' texts fc fi ic ii bc bi
-  named texts fc ic bc fi ii bi w a b c d e f =
+      Each (NearItem p' q') ii → Each (NearCell q (length s)) bc → Each (NearItem q (length s)) bi →
+      Each (λ c. 1 ≤ c .place) fc → Each (λ i. 1 ≤ i .head .place) fi → Each (λ c. 1 ≤ c .place) ic → Each (λ i. 1 ≤ i .head .place) ii →
+      Each (λ c. 1 ≤ c .place) bc → Each (λ i. 1 ≤ i .head .place) bi → Named s t new p q p' q' texts fc fi ic ii bc bi
+  named texts fc ic bc fi ii bi w a b c d e f a' b' c' d' e' f' =
       record {
         textsSame = same-texts texts w;
         frontSame = fronts fc a;
@@ -270,6 +336,12 @@ module _ (s t : List ℕ) (p q p' q' : ℕ) (h : p ≤ length s) (k : q ≤ leng
         itemsSame = in-items ii d;
         behindSame = behinds bc e;
         behindItemsSame = behind-items bi f;
+        frontAt = cells-stand 0 p fc a a';
+        frontItemsAt = items-stand 0 p fi b b';
+        incomingAt = cells-stand p' q' ic c c';
+        itemsAt = items-stand p' q' ii d d';
+        behindAt = cells-stand q (length s) bc e e';
+        behindItemsAt = items-stand q (length s) bi f f';
       }
 
 -- what stands behind is the same list where what stands before is

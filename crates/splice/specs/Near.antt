@@ -302,16 +302,16 @@ set-texts hi l k b e m (n, h) = (length-set (set l (2 * k) b) (2 * k + 1) e ∙ 
         let z = leb-false 7 k g in
         let y = eqb-true i k f in
         let x : getD (set (set l (2 * k) b) (2 * k + 1) e) (2 * i) 0 ≡ b =
-            rw y (getD-set-other (set l (2 * k) b) (2 * k + 1) (2 * k) e 0 (λ q. omega arith) ∙ getD-set-same l (2 * k) b 0 (omega arith)) in
+        rw y (getD-set-other (set l (2 * k) b) (2 * k + 1) (2 * k) e 0 (λ q. omega arith) ∙ getD-set-same l (2 * k) b 0 (omega arith)) in
         let w : getD (set (set l (2 * k) b) (2 * k + 1) e) (2 * i + 1) 0 ≡ e =
-            rw y (getD-set-same (set l (2 * k) b) (2 * k + 1) e 0 (omega (arith, length-set l (2 * k) b))) in
+        rw y (getD-set-same (set l (2 * k) b) (2 * k + 1) e 0 (omega (arith, length-set l (2 * k) b))) in
         rw (x, w) m
     by i false f false g =
         let y = eqb-false i k f in
         let x : getD (set (set l (2 * k) b) (2 * k + 1) e) (2 * i) 0 ≡ getD l (2 * i) 0 =
-            getD-set-other (set l (2 * k) b) (2 * k + 1) (2 * i) e 0 (λ q. omega arith) ∙ getD-set-other l (2 * k) (2 * i) b 0 (λ q. y (omega arith)) in
+        getD-set-other (set l (2 * k) b) (2 * k + 1) (2 * i) e 0 (λ q. omega arith) ∙ getD-set-other l (2 * k) (2 * i) b 0 (λ q. y (omega arith)) in
         let w : getD (set (set l (2 * k) b) (2 * k + 1) e) (2 * i + 1) 0 ≡ getD l (2 * i + 1) 0 =
-            getD-set-other (set l (2 * k) b) (2 * k + 1) (2 * i + 1) e 0 (λ q. y (omega arith)) ∙ getD-set-other l (2 * k) (2 * i + 1) b 0 (λ q. omega arith) in
+        getD-set-other (set l (2 * k) b) (2 * k + 1) (2 * i + 1) e 0 (λ q. y (omega arith)) ∙ getD-set-other l (2 * k) (2 * i + 1) b 0 (λ q. omega arith) in
         rw (x, w) (h i)
 
 note-texts : (hi : ℕ) (k : Note) (t : Placed) (l : Log) → 1 ≤ t .start → t .start < t .end → t .end ≤ hi → NearTexts hi (l .texts) →

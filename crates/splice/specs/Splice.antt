@@ -24,9 +24,9 @@ use Rattle.splice.specs.Along.{moveTok}
 use Rattle.splice.specs.Moved.{moveCell, moveItem, moveTaken}
 use Rattle.splice.specs.OneCell.{Stands, Done, Adds}
 use Rattle.splice.specs.Near.{NearCell, NearItem, NearLog, NearTexts}
-use Rattle.splice.specs.Names.{Words, Named, named, front-near, front-texts, incoming-near, behind-near, token-inside, behind-cells, same-items}
-use Rattle.splice.specs.Several.{count-moved}
-use Rattle.splice.specs.Span.{cellFrom, cellTo, newFile, takenOf, taken-is, newFileOf, CellAt, cell-at, Tail, tail-of}
+use Rattle.splice.specs.Names.{Words, Named, named, front-near, front-texts, incoming-near, behind-near, token-inside, behind-cells, same-items, cells-ahead, items-ahead}
+use Rattle.splice.specs.Several.{count-moved, each-left, each-right}
+use Rattle.splice.specs.Span.{cellFrom, cellTo, newFile, takenOf, taken-is, newFileOf, CellAt, cell-at, Tail, tail-of, Begins}
 use Rattle.splice.specs.Carried.{Incoming, incoming, newTaken, new-carried}
 use Rattle.splice.specs.Parts.{
   Old,
@@ -222,6 +222,27 @@ module _ (cr ir : ℕ) (s : List ℕ) (st : At) (xs : List Taken) (f : Follows (
           tokens1 ∙ ap toks (ap (λ (z : List Taken). C .hs ++ (C .o ∷ C .w ∷ z)) (ap (λ (z : List Taken). z ++ C .zs) (T .split) ∙ append-assoc (T .ms) (T .x ∷ []) (C .zs))
           ∙ sym (append-assoc (C .hs) (C .o ∷ C .w ∷ T .ms) (T .x ∷ C .zs)))
 
+      cells1 : Each (λ c. 1 ≤ c .place) ((O .b1 .log .cells ++ R .outgoing ∷ []) ++ R .behindCells)
+      cells1 =
+          subst (λ (x : List Cell). Each (λ c. 1 ≤ c .place) x) (ap (λ (l : Log). l .cells) (R .oldLog))
+          (cells-ahead s xs (st .book .log .cells) (file-begins xs [] (fed file xs (f .carried))) (sym (f .tokens)) (S .cellList))
+
+      items1 : Each (λ i. 1 ≤ i .head .place) ((O .b1 .log .items ++ R .outItems) ++ R .behindItems)
+      items1 =
+          subst (λ (x : List Item). Each (λ i. 1 ≤ i .head .place) x) (ap (λ (l : Log). l .items) (R .oldLog))
+          (items-ahead s xs (st .book .log .items) (file-begins xs [] (fed file xs (f .carried))) (sym (f .tokens)) (S .entryList))
+
+      begins2 : Begins ys
+      begins2 = subst Begins (sym (I .split)) (I .block .opener)
+
+      cells2 : Each (λ c. 1 ≤ c .place) (R .new ∷ [])
+      cells2 =
+          subst (λ (x : List Cell). Each (λ c. 1 ≤ c .place) x) (ap (λ (l : Log). l .cells) (R .inLog))
+          (cells-ahead t ys (st2 .book .log .cells) begins2 (sym (f2 .tokens)) (S2 .cellList))
+
+      items2 : Each (λ i. 1 ≤ i .head .place) (st2 .book .log .items)
+      items2 = items-ahead t ys (st2 .book .log .items) begins2 (sym (f2 .tokens)) (S2 .entryList)
+
       by : Adds 0 0 (O .b1 .log .texts) (O .b1 .log .texts) (O .b1 .log .cells) (O .b1 .log .cells) (O .b1 .log .items) (O .b1 .log .items) (O .b1) (O .b1) (O .b2)
           (C .o ∷ C .w ∷ C .cs) →
           Named s t (N s t xs ys n b C I T U) p q p2 q2 (st .book .log .texts) (O .b1 .log .cells) (O .b1 .log .items) (R .new ∷ []) (st2 .book .log .items) (R .behindCells) (R .behindItems)
@@ -240,6 +261,9 @@ module _ (cr ir : ℕ) (s : List ℕ) (st : At) (xs : List Taken) (f : Follows (
           (subst (λ (x : List Cell). Each (NearCell p2 q2) x) (sym (G .cells) ∙ ap (λ (l : Log). l .cells) (R .inLog)) (G .eachCell))
           (subst (λ (x : List Item). Each (NearItem p2 q2) x) (sym (G .items)) (G .eachItem))
           (subst (λ (x : List Cell). Each (NearCell q (length s)) x) (sym c2) (H .eachCell)) (subst (λ (x : List Item). Each (NearItem q (length s)) x) (sym e) (H .eachItem))
+          (each-left _ (O .b1 .log .cells) (R .outgoing ∷ []) (each-left _ (O .b1 .log .cells ++ R .outgoing ∷ []) (R .behindCells) cells1))
+          (each-left _ (O .b1 .log .items) (R .outItems) (each-left _ (O .b1 .log .items ++ R .outItems) (R .behindItems) items1)) cells2 items2
+          (each-right _ (O .b1 .log .cells ++ R .outgoing ∷ []) (R .behindCells) cells1) (each-right _ (O .b1 .log .items ++ R .outItems) (R .behindItems) items1)
 
   by-run : (cr' ir' : ℕ) → length (N s t xs ys n b C I T U) ≤ textLimit → st .book .slash ≡ C .d → st .book .unit ≡ O .b1 .unit →
       total (st .book .log .cells) ≡ length (st .book .log .items) →
