@@ -1,23 +1,23 @@
 -- The tokens of a text from one place to another: they do not see what stands behind a bracket, nor where they stand.
 -- Assumes nothing.
-use Prim.Native.Nat.{ℕ, zero, suc, _+_, _-_, _≤_, _<_}
+use Prim.Native.Nat.{ℕ, _+_, _-_, _≤_, _<_}
 use native.Mathlib.Nat.{eq-or-lt-of-le, le-refl}
 use native.Mathlib.Omega.{arith}
 use mathlib.Core.Path.{_≡_, refl, ap, _∙_, sym, subst}
-use mathlib.Core.Bool.{Bool, true, false, true≢false}
+use mathlib.Core.Bool.{Bool, true, false}
 use mathlib.Core.Logic.{_⊎_, inl, inr, ⊎-elim}
 use mathlib.Core.List.{List, [], _∷_, _++_, map, nil≢cons, head-eq-of-cons-eq, tail-eq-of-cons-eq}
-use lib.Dec.{leb, ltb, eqb}
-use lib.ListN.{length, take, drop, getD, length-append, length-drop, List·getD-append}
+use lib.Dec.{leb, eqb}
+use lib.ListN.{length, drop, getD, length-append, length-drop, List·getD-append}
 use lib.Seq.{drop-append-add, drop-append-le, take-append-le, getD-append-seam}
-use borrow.Author.Tests.{leb-true, leb-false, eqb-true, eqb-false, eq-eqb, lt-leb, le-leb}
+use borrow.Author.Tests.{leb-false, eqb-true, lt-leb}
 use Rattle.classes.specs.Choice.{pick}
 use Rattle.classes.specs.Classes.{classOf}
 use Rattle.tokens.specs.declared.Blank.{Blank}
 use Rattle.tokens.specs.declared.Token.{Token}
 use Rattle.tokens.specs.declared.Token.the-variants.{Got, Stop}
-use Rattle.tokens.specs.Scan.{scanLen, scanSt, local-at, stops, stopsSt}
-use Rattle.tokens.specs.Machines.{wordStop, wordHalts, wordGoes, textHalts, closeHalts, textGoes, blankStop, blankHalts, blankGoes, outside, wordEnd}
+use Rattle.tokens.specs.Scan.{local-at, stops, stopsSt}
+use Rattle.tokens.specs.Machines.{wordStop, wordHalts, wordGoes, textHalts, closeHalts, textGoes, blankStop, blankHalts, blankGoes, outside}
 use Rattle.tokens.specs.Tokens.{stringOf, tokenOf, tokenHere, behind, tokenAt, blankEnd, blankAt, blockEnd}
 use Rattle.tokens.specs.Stream.{Placed, placed, Stream, part, stream, stream-turn, onward, onwards}
 use Rattle.tokens.specs.Local.{Alike, Inside, alike-same}

@@ -5,12 +5,11 @@ use mathlib.Core.Bool.{Bool, true, false}
 use mathlib.Core.List.{List, [], _∷_, _++_, append-assoc, nil≢cons}
 use mathlib.Core.Logic.{_⊎_, inl, inr, ⊎-elim}
 use mathlib.Core.Option.{Option, none, some}
-use Prim.Native.Nat.{ℕ, zero, suc, _+_, _≤_}
+use Prim.Native.Nat.{ℕ, zero, suc, _≤_}
 use native.Mathlib.Nat.{not-suc-le-zero, le-refl}
 use native.Mathlib.Omega.{arith}
 use lib.ListN.{length, length-append}
 use Rattle.classes.specs.Choice.{pick}
-use Rattle.tokens.specs.Stream.{Placed}
 use Rattle.grammar.specs.Ll.{Sym, lit, non, Alt, Row, Took, choose, onto, feed, feeds, none≢some}
 use Rattle.grammar.specs.Grammar.{
   text,
@@ -41,7 +40,7 @@ use Rattle.grammar.specs.Grammar.{
 }
 use Rattle.grammar.specs.Outcome.{Stack}
 use Rattle.laws.specs.Walk.{some-inj}
-use Rattle.laws.specs.Taken.{Taken, terms, toks}
+use Rattle.laws.specs.Taken.{Taken}
 use Rattle.laws.specs.Behind.{Fed, fed-uncons}
 use Rattle.splice.specs.OneCell.{Block}
 

@@ -2,9 +2,9 @@
 -- Assumes nothing.
 use mathlib.Core.Path.{_≡_, refl, sym, ap, subst, _∙_}
 use mathlib.Core.Bool.{Bool, true, false, true≢false}
-use mathlib.Core.List.{List, [], _∷_, _++_, map, append-nil, append-assoc}
+use mathlib.Core.List.{List, [], _∷_, _++_, map}
 use mathlib.Core.Option.{Option, none, some}
-use Prim.Native.Nat.{ℕ, zero, suc, _+_, _≤_}
+use Prim.Native.Nat.{ℕ, zero, suc}
 use native.Mathlib.Omega.{arith}
 use lib.Dec.{eqb, leb}
 use lib.ListN.{drop}
@@ -12,13 +12,12 @@ use borrow.Author.Tests.{eqb-true, leb-true}
 use Rattle.classes.specs.Choice.{pick, and, within}
 use Rattle.tokens.specs.Stream.{Placed}
 use Rattle.words.specs.Words.{keyOf}
-use Rattle.grammar.specs.Ll.{Sym, lit, non, Alt, Row, Took, choose, onto, feed, feeds, none≢some, both-true, below}
+use Rattle.grammar.specs.Ll.{lit, non, Alt, Took, choose, onto, feed, none≢some, both-true, below}
 use Rattle.grammar.specs.Grammar.{Cls, this, text, word, path, port, number, cell, Term, N, header, more, opens, key, _‼_, heads, cellTail, alts, fits, looks, kindOf, file, oneCell}
 use Rattle.grammar.specs.Meaning.{Book}
 use Rattle.grammar.specs.Outcome.{Stack}
-use Rattle.laws.specs.Walk.{some-inj}
 use Rattle.laws.specs.Phases.{taker-fits}
-use Rattle.laws.specs.Taken.{Taken, terms, toks}
+use Rattle.laws.specs.Taken.{Taken, toks}
 use Rattle.laws.specs.Behind.{Fed, fed-uncons, fed-append}
 use Rattle.sound.specs.Sound.{Each}
 use Rattle.splice.specs.Along.{moveTok}

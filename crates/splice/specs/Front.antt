@@ -2,12 +2,11 @@
 -- Assumes nothing.
 use mathlib.Core.Path.{_≡_, refl, sym, ap, subst, _∙_}
 use mathlib.Core.Bool.{Bool, true, false}
-use mathlib.Core.List.{List, [], _∷_, _++_}
+use mathlib.Core.List.{List, [], _∷_}
 use mathlib.Core.Option.{Option, none, some}
 use Prim.Native.Nat.{ℕ, zero, suc, _+_, _-_, _≤_}
 use native.Mathlib.Omega.{arith}
 use lib.Dec.{eqb, ltb}
-use lib.IntN.{ℤ}
 use lib.ListN.{length}
 use borrow.Author.Tests.{eqb-true, ne-eqb}
 use Rattle.classes.specs.Choice.{pick}
@@ -15,7 +14,7 @@ use Rattle.tokens.specs.Stream.{Placed}
 use Rattle.times.specs.Value.{numberOf}
 use Rattle.times.specs.declared.Number.{Number}
 use Rattle.times.specs.declared.Number.the-variants as number
-use Rattle.grammar.specs.Ll.{non, Row, feeds, none≢some}
+use Rattle.grammar.specs.Ll.{non}
 use Rattle.grammar.specs.Machine.{Res, fine, bad, _then_, fine-inj, bad≢fine, judges}
 use Rattle.grammar.specs.Grammar.{
   Cls,
@@ -78,22 +77,8 @@ use Rattle.grammar.specs.Grammar.{
   file,
 }
 use Rattle.grammar.specs.Grammar as G
-use Rattle.grammar.specs.Meaning.{
-  Log,
-  Book,
-  nothing,
-  noHead,
-  noCell,
-  tidy,
-  celled,
-  noted,
-  overlong,
-  told,
-  timed,
-  judge,
-  judgeBy,
-}
-use Rattle.grammar.specs.Outcome.{Stack, noLog}
+use Rattle.grammar.specs.Meaning.{Log, Book, nothing, noHead, noCell, tidy, noted, overlong, timed, judge, judgeBy}
+use Rattle.grammar.specs.Outcome.{noLog}
 use Rattle.laws.specs.Walk.{walk, through, agrees, agrees-drop, along-inv, kept-if, kept, some-inj}
 use Rattle.laws.specs.Phases.{every, from, to}
 use Rattle.laws.specs.Taken.{Taken, terms, toks, tells, opensCell, opensEntry, those, cellWords, entryWords}

@@ -13,3 +13,4 @@ pub mod Near
 pub mod Parts
 pub mod Names
 pub mod Splice
+pub mod Examples

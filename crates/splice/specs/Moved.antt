@@ -1,13 +1,11 @@
 -- What was read, at other places: a place p of one text, a or behind it, stands at c + (p - a) in another.
 -- Assumes nothing.
 use mathlib.Core.Path.{_≡_, refl}
-use mathlib.Core.List.{List, map}
 use Prim.Native.Nat.{ℕ, _+_, _-_, _≤_, _<_}
 use native.Mathlib.Omega.{arith}
 use lib.Dec.{eqb}
 use borrow.Author.Tests.{ne-eqb}
 use Rattle.classes.specs.Choice.{pick}
-use Rattle.tokens.specs.Stream.{Placed}
 use Rattle.grammar.specs.declared.Entry.{Entry}
 use Rattle.grammar.specs.declared.Cell.{Cell}
 use Rattle.grammar.specs.Meaning.{Item, Begun, noHead}

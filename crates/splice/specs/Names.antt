@@ -4,7 +4,7 @@ use mathlib.Core.Path.{_≡_, refl, sym, ap, subst, _∙_}
 use mathlib.Core.Bool.{Bool, true, false}
 use mathlib.Core.List.{List, [], _∷_, _++_, map, append-nil, append-assoc, append-cancel-left, tail-eq-of-cons-eq, head-eq-of-cons-eq, nil≢cons}
 use mathlib.Core.Logic.{inl, inr}
-use Prim.Native.Nat.{ℕ, zero, suc, _+_, _-_, _≤_, _<_}
+use Prim.Native.Nat.{ℕ, _+_, _-_, _≤_, _<_}
 use native.Mathlib.Nat.{le-refl}
 use native.Mathlib.Omega.{arith}
 use lib.ListN.{length, take, drop, length-append, length-drop, take-append-drop}
@@ -12,20 +12,19 @@ use lib.Seq.{length-take-le, drop-drop, drop-at, append-snoc}
 use Rattle.classes.specs.Choice.{pick}
 use Rattle.tokens.specs.Stream.{Placed, part, stream, onwards}
 use Rattle.grammar.specs.declared.Cell.{Cell}
-use Rattle.grammar.specs.Machine.{Res, fine, bad, _then_, fine-inj, judges}
-use Rattle.grammar.specs.Grammar.{Act, note, skip, Term, opens, key, cell, _‼_}
-use Rattle.grammar.specs.Meaning.{Item, Log, Book, noHead, noCell, tidy, told, judge}
+use Rattle.grammar.specs.Machine.{fine, fine-inj, judges}
+use Rattle.grammar.specs.Grammar.{Act, note, skip, Term, opens}
+use Rattle.grammar.specs.Meaning.{Item, Log, Book, tidy, told}
 use Rattle.grammar.specs.Outcome.{noLog}
 use Rattle.laws.specs.Taken.{Taken, toks, tells, opensCell, opensEntry, those, cellWords, entryWords}
 use Rattle.laws.specs.Log.{starts, itemPlaces, cellPlaces}
-use Rattle.laws.specs.Behind.{then-fine}
 use Rattle.sound.specs.Sound.{Each}
 use Rattle.splice.specs.Along.{moveTok, Goes, stream-goes, goes-stream, goes-split}
 use Rattle.splice.specs.Swap.{swapped}
 use Rattle.splice.specs.Moved.{moveCell, moveItem}
 use Rattle.splice.specs.Span.{Begins, Tail}
 use Rattle.splice.specs.Carried.{Incoming}
-use Rattle.splice.specs.Near.{Near, NearAt, NearCell, NearItem, NearEntry, NearLog, Within, all-near, SameCell, SameItem, cells-move, items-move, cells-stay, items-stay, NearTexts, all-texts, no-texts, SameTexts, texts-stay}
+use Rattle.splice.specs.Near.{NearAt, NearCell, NearItem, NearLog, Within, all-near, SameCell, SameItem, cells-move, items-move, cells-stay, items-stay, NearTexts, all-texts, no-texts, SameTexts, texts-stay}
 use Rattle.splice.specs.Parts.{toks-append}
 
 -- TOKENS IN ORDER, up to the end of the last of them

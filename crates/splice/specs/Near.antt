@@ -2,13 +2,13 @@
 -- Assumes nothing.
 use mathlib.Core.Path.{_≡_, refl, sym, ap, subst, _∙_}
 use mathlib.Core.Bool.{Bool, true, false}
-use mathlib.Core.List.{List, [], _∷_, _++_, append-nil, append-assoc}
-use mathlib.Core.Logic.{_⊎_, inl, inr, ⊎-elim}
-use Prim.Native.Nat.{ℕ, zero, suc, _+_, _-_, _*_, _≤_, _<_}
+use mathlib.Core.List.{List, [], _∷_, _++_, append-assoc}
+use mathlib.Core.Logic.{_⊎_, inl, inr}
+use Prim.Native.Nat.{ℕ, _+_, _-_, _*_, _≤_, _<_}
 use native.Mathlib.Nat.{zero-add}
 use native.Mathlib.Omega.{arith}
 use lib.Dec.{eqb, leb, ltb}
-use lib.ListN.{length, take, drop, getD, set, length-append, length-set, replicate, getD-replicate, List·getD-eq-default}
+use lib.ListN.{length, getD, set, length-append, length-set, replicate, getD-replicate, List·getD-eq-default}
 use lib.Seq.{getD-set-same, getD-set-other, set-out}
 use borrow.Author.Tests.{leb-true, leb-false, le-leb, lt-leb, eqb-true, eqb-false, ltb-true, ltb-false}
 use Rattle.classes.specs.Choice.{pick}
@@ -19,7 +19,7 @@ use Rattle.times.specs.declared.Number.{Number}
 use Rattle.times.specs.declared.Number.the-variants as number
 use Rattle.grammar.specs.declared.Entry.{Entry}
 use Rattle.grammar.specs.declared.Cell.{Cell}
-use Rattle.grammar.specs.Machine.{Res, fine, bad, _then_, fine-inj, bad≢fine, judges}
+use Rattle.grammar.specs.Machine.{fine, bad, fine-inj, bad≢fine, judges}
 use Rattle.grammar.specs.Grammar.{
   Cls,
   Note,

@@ -1,18 +1,17 @@
 -- ONE CELL, wherever it stands: its tokens add one cell with its entries to what was read, and only their places tell where they stand.
 -- Assumes nothing.
 use mathlib.Core.Path.{_≡_, refl, sym, ap, subst, _∙_}
-use mathlib.Core.Bool.{Bool, true, false, true≢false}
+use mathlib.Core.Bool.{Bool, true, false}
 use mathlib.Core.List.{List, [], _∷_, _++_, map, append-nil, append-assoc}
-use mathlib.Core.Option.{Option, none, some}
+use mathlib.Core.Option.{none, some}
 use Prim.Native.Nat.{ℕ, zero, suc, _+_, _-_, _≤_, _<_}
 use native.Mathlib.Omega.{arith}
 use lib.Dec.{eqb}
-use lib.IntN.{ℤ}
 use lib.ListN.{length, length-append, length-map}
 use borrow.Author.Tests.{eqb-true, ne-eqb}
 use Rattle.classes.specs.Choice.{pick}
 use Rattle.tokens.specs.Stream.{Placed}
-use Rattle.words.specs.Words.{keyOf, edgeOf}
+use Rattle.words.specs.Words.{keyOf}
 use Rattle.times.specs.Value.{numberOf}
 use Rattle.times.specs.declared.Number.{Number}
 use Rattle.times.specs.declared.Number.the-variants as number
@@ -59,39 +58,7 @@ use Rattle.grammar.specs.Grammar.{
   _‼_,
 }
 use Rattle.grammar.specs.Grammar as G
-use Rattle.grammar.specs.Meaning.{
-  Item,
-  Begun,
-  Log,
-  Book,
-  nothing,
-  noHead,
-  noCell,
-  headOf,
-  tidy,
-  valued,
-  pushed,
-  headed,
-  started,
-  itemOf,
-  entered,
-  celled,
-  cellOf,
-  finished,
-  typed,
-  pathed,
-  edgePut,
-  endPut,
-  edgeOfEnd,
-  noted,
-  timely,
-  overlong,
-  timed,
-  begins,
-  told,
-  judge,
-  judgeBy,
-}
+use Rattle.grammar.specs.Meaning.{Item, Begun, Log, Book, nothing, noHead, tidy, valued, pushed, headed, started, itemOf, entered, celled, cellOf, finished, edgePut, endPut, edgeOfEnd, noted, timely, overlong, timed, begins, told, judge, judgeBy}
 use Rattle.laws.specs.Walk.{through, along-inv, kept-if, some-inj}
 use Rattle.laws.specs.Taken.{Taken, terms, toks, tells, opensEntry, those, entryWords}
 use Rattle.laws.specs.Phases.{from, to}

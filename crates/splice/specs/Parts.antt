@@ -1,44 +1,42 @@
 -- The old file's reading in three parts: before a cell, the cell, behind it; and the new file's, with the incoming cell in the middle.
 -- Assumes nothing.
 use mathlib.Core.Path.{_≡_, refl, sym, ap, subst, _∙_}
-use mathlib.Core.Bool.{Bool, true, false}
+use mathlib.Core.Bool.{Bool, true}
 use mathlib.Core.List.{List, [], _∷_, _++_, map, append-nil, append-assoc}
-use mathlib.Core.Option.{Option, none, some}
-use Prim.Native.Nat.{ℕ, zero, suc, _+_, _-_, _≤_, _<_}
+use mathlib.Core.Option.{none, some}
+use Prim.Native.Nat.{ℕ, suc, _+_, _-_, _≤_, _<_}
 use native.Mathlib.Nat.{le-refl}
 use native.Mathlib.Omega.{arith}
 use lib.Dec.{eqb}
-use lib.ListN.{length, getD, take, drop, length-append, length-map, replicate}
+use lib.ListN.{length, getD, length-append, replicate}
 use lib.Seq.{append-snoc, getD-at}
 use borrow.Author.Tests.{eqb-true}
 use Rattle.classes.specs.Choice.{pick}
-use Rattle.tokens.specs.Tokens.{tokenAt}
-use Rattle.tokens.specs.Stream.{Placed, Stream, stream, onwards, part}
+use Rattle.tokens.specs.Stream.{Placed, stream, onwards}
 use Rattle.grammar.specs.declared.Cell.{Cell}
 use Rattle.grammar.specs.Ll.{non, feeds, both-true}
-use Rattle.grammar.specs.Machine.{Res, fine, _then_, fine-inj}
-use Rattle.grammar.specs.Grammar.{Act, opens, closes, finish, skip, key, cell, _‼_, header, more, file, oneCell, cellTail, fits}
+use Rattle.grammar.specs.Machine.{Res, fine, _then_}
+use Rattle.grammar.specs.Grammar.{Act, opens, closes, finish, cell, header, more, file, cellTail, fits}
 use Rattle.grammar.specs.Meaning.{Item, Log, Book, tidy, told}
-use Rattle.grammar.specs.Reading.{At, runs}
-use Rattle.grammar.specs.Outcome.{Stack, noLog, textLimit, readFile, readCell}
+use Rattle.grammar.specs.Reading.{At}
+use Rattle.grammar.specs.Outcome.{Stack, noLog}
 use Rattle.laws.specs.Walk.{walk, through, along-inv, kept-if}
 use Rattle.laws.specs.Phases.{moves, every, from, to, in-turn, taker-fits}
-use Rattle.laws.specs.Sides.{aFile, aCell}
-use Rattle.laws.specs.Taken.{As, asFile, asCell, starting, readAs, file-is, cell-is, Taken, terms, toks, tells, opensCell, opensEntry, those, cellWords, entryWords}
-use Rattle.laws.specs.Behind.{then-fine, tells-append, Behind, behind, Fed, fed, fed-uncons, fed-append, reaches}
-use Rattle.laws.specs.Log.{starts, itemPlaces, cellPlaces, listed}
+use Rattle.laws.specs.Sides.{aFile}
+use Rattle.laws.specs.Taken.{As, starting, Taken, terms, toks, tells, opensCell, opensEntry, those, cellWords, entryWords}
+use Rattle.laws.specs.Behind.{then-fine, tells-append, behind, Fed, fed-uncons, fed-append}
+use Rattle.laws.specs.Log.{itemPlaces, cellPlaces, listed}
 use Rattle.laws.specs.Counts.{entryCounts}
-use Rattle.laws.specs.Exactly.{Follows, Says, read-says, cell-says, whole}
-use Rattle.sound.specs.Sound.{Each, SoundLog, total, read-sound}
-use Rattle.splice.specs.Along.{Goes, stream-goes, goes-stream, moveTok}
-use Rattle.splice.specs.Swap.{map-append, swapped, tokens-swapped}
+use Rattle.sound.specs.Sound.{Each, total}
+use Rattle.splice.specs.Along.{Goes, stream-goes, moveTok}
+use Rattle.splice.specs.Swap.{swapped, tokens-swapped}
 use Rattle.splice.specs.Moved.{moveCell, moveItem, moveTaken}
-use Rattle.splice.specs.OneCell.{Stands, Done, Block, Adds, cell-adds}
-use Rattle.splice.specs.Blocks.{Takes, fed-cons, Cells, cells-follow}
+use Rattle.splice.specs.OneCell.{Stands, Block, Adds, cell-adds}
+use Rattle.splice.specs.Blocks.{fed-cons, cells-follow}
 use Rattle.splice.specs.Several.{those-append, count-moved, at-term, each-left, each-right, AddsAll, cells-add}
 use Rattle.splice.specs.Front.{roomed, read-roomed, tidy-there}
-use Rattle.splice.specs.Span.{cellFrom, cellTo, newFile, CellAt, cell-at, Tail, tail-of, Begins, from-at, to-at, outside-there, closes-there, starts-length, no-cell-word}
-use Rattle.splice.specs.Carried.{Incoming, incoming, newTaken, new-carried, opener-kind, fed-below, lit-taken}
+use Rattle.splice.specs.Span.{cellFrom, cellTo, newFile, CellAt, Tail, Begins, from-at, to-at, outside-there, closes-there, starts-length, no-cell-word}
+use Rattle.splice.specs.Carried.{Incoming, newTaken, opener-kind, fed-below, lit-taken}
 
 -- TOKENS IN ORDER: behind a token each starts where that ends or later, and none is empty
 goes-order : (s : List ℕ) (vs : List Taken) (p q : ℕ) → p ≤ length s → Goes s p (toks vs) q →

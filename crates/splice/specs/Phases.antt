@@ -10,7 +10,7 @@ use lib.Dec.{eqb, ltb}
 use borrow.Author.Tests.{eqb-true}
 use Rattle.classes.specs.Choice.{pick}
 use Rattle.tokens.specs.Stream.{Placed}
-use Rattle.grammar.specs.Ll.{Sym, lit, non, Alt, Row, choose, feeds, before-inv, none≢some}
+use Rattle.grammar.specs.Ll.{lit, non, Alt, Row, choose, feeds, before-inv, none≢some}
 use Rattle.grammar.specs.Grammar.{
   Note,
   skip,
@@ -71,7 +71,7 @@ use Rattle.grammar.specs.Grammar.{
 }
 use Rattle.grammar.specs.Grammar as G
 use Rattle.grammar.specs.Outcome.{Stack}
-use Rattle.laws.specs.Walk.{goes, walk, through, agrees, along-inv, kept-if, some-inj, through-cons, walk-append, agrees-chosen, Walks}
+use Rattle.laws.specs.Walk.{goes, walk, through, agrees, along-inv, kept-if, some-inj, through-cons, walk-append, agrees-chosen}
 use Rattle.laws.specs.Phases.{from, to}
 
 abbrev pub inNote : ℕ → Note → Option ℕ

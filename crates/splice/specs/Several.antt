@@ -3,23 +3,23 @@
 use mathlib.Core.Path.{_≡_, refl, sym, ap, subst, _∙_}
 use mathlib.Core.Bool.{Bool, true, false}
 use mathlib.Core.List.{List, [], _∷_, _++_, map, append-nil, append-assoc}
-use Prim.Native.Nat.{ℕ, zero, suc, _+_, _-_, _≤_}
+use Prim.Native.Nat.{ℕ, suc, _+_, _-_, _≤_}
 use native.Mathlib.Omega.{arith}
 use lib.ListN.{length, length-append, length-map}
 use lib.Seq.{append-snoc}
 use Rattle.classes.specs.Choice.{pick}
 use Rattle.tokens.specs.Stream.{Placed}
 use Rattle.grammar.specs.declared.Cell.{Cell}
-use Rattle.grammar.specs.Machine.{Res, fine, bad, _then_, fine-inj, judges}
+use Rattle.grammar.specs.Machine.{Res, fine, _then_, fine-inj, judges}
 use Rattle.grammar.specs.Grammar.{Act, skip, Term, closes}
-use Rattle.grammar.specs.Meaning.{Item, Log, Book, tidy, told, judge}
+use Rattle.grammar.specs.Meaning.{Item, Book, tidy, told, judge}
 use Rattle.laws.specs.Taken.{Taken, tells, opensCell, opensEntry, those, cellWords, entryWords}
-use Rattle.laws.specs.Behind.{then-fine, tells-append, those-cons, Behind, behind}
+use Rattle.laws.specs.Behind.{then-fine, tells-append, behind}
 use Rattle.sound.specs.Sound.{Each, total}
 use Rattle.splice.specs.Along.{moveTok}
 use Rattle.splice.specs.Swap.{map-append}
 use Rattle.splice.specs.Moved.{moveCell, moveItem, moveTaken}
-use Rattle.splice.specs.OneCell.{Stands, Done, Block, Adds, cell-adds}
+use Rattle.splice.specs.OneCell.{Stands, Block, Adds, cell-adds}
 use Rattle.splice.specs.Blocks.{Cells, last, next}
 
 pub those-append : (f : Act → Bool) (xs ys : List Taken) → those f (xs ++ ys) ≡ those f xs ++ those f ys

@@ -3,8 +3,8 @@
 -- Assumes nothing.
 use mathlib.Core.Path.{_≡_, refl, sym, ap, subst, _∙_}
 use mathlib.Core.Bool.{Bool, true, false, true≢false}
-use mathlib.Core.List.{List, [], _∷_, _++_, append-assoc, append-nil}
-use mathlib.Core.Logic.{_⊎_, inl, inr, ⊎-elim}
+use mathlib.Core.List.{List, [], _∷_, _++_, append-nil}
+use mathlib.Core.Logic.{⊎-elim}
 use mathlib.Core.Option.{Option, none, some}
 use Prim.Native.Nat.{ℕ, zero, suc, _+_}
 use lib.Dec.{eqb, ltb}
@@ -14,8 +14,8 @@ use Rattle.tokens.specs.Stream.{Placed}
 use Rattle.times.specs.Value.{numberOf}
 use Rattle.times.specs.declared.Number.{Number}
 use Rattle.times.specs.declared.Number.the-variants as number
-use Rattle.grammar.specs.Ll.{Sym, lit, non, Alt, Row, Took, choose, onto, feed, feeds, none≢some, both-true}
-use Rattle.grammar.specs.Machine.{Res, fine, bad, fine-inj, bad≢fine, judges}
+use Rattle.grammar.specs.Ll.{Sym, lit, non, Alt, Row, Took, choose, onto, feeds, none≢some, both-true}
+use Rattle.grammar.specs.Machine.{fine, bad, fine-inj, bad≢fine, judges}
 use Rattle.grammar.specs.Grammar.{
   Cls,
   Act,
@@ -74,7 +74,7 @@ use Rattle.grammar.specs.Grammar as G
 use Rattle.grammar.specs.Meaning.{Book, overlong, timed, judge, judgeBy}
 use Rattle.grammar.specs.Outcome.{Stack}
 use Rattle.laws.specs.Walk.{some-inj}
-use Rattle.laws.specs.Taken.{Taken, terms, toks, tells, opensCell}
+use Rattle.laws.specs.Taken.{Taken, tells, opensCell}
 use Rattle.laws.specs.Judged.{pick-fine}
 use Rattle.laws.specs.Behind.{then-fine, Fed, fed-uncons}
 use Rattle.sound.specs.Sound.{Each}

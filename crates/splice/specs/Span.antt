@@ -2,10 +2,10 @@
 -- Assumes nothing.
 use mathlib.Core.Path.{_≡_, refl, sym, ap, subst, _∙_}
 use mathlib.Core.Bool.{Bool, true, false, true≢false}
-use mathlib.Core.List.{List, [], _∷_, _++_, map, append-nil, append-assoc}
+use mathlib.Core.List.{List, [], _∷_, _++_, append-nil, append-assoc}
 use mathlib.Core.Logic.{_⊎_, inl, inr, ⊎-elim}
 use mathlib.Core.Option.{Option, none, some}
-use Prim.Native.Nat.{ℕ, zero, suc, _+_, _-_, _≤_, _<_}
+use Prim.Native.Nat.{ℕ, zero, suc, _+_, _-_, _<_}
 use native.Mathlib.Nat.{not-suc-le-zero}
 use native.Mathlib.Omega.{arith}
 use lib.Dec.{eqb}
@@ -14,8 +14,8 @@ use lib.Seq.{getD-at}
 use borrow.Author.Tests.{eqb-true}
 use Rattle.classes.specs.Choice.{pick}
 use Rattle.tokens.specs.Stream.{Placed, stream}
-use Rattle.grammar.specs.Ll.{Sym, lit, non, Row, feeds, none≢some}
-use Rattle.grammar.specs.Machine.{Res, fine, _then_, fine-inj, judges}
+use Rattle.grammar.specs.Ll.{non, Row, feeds, none≢some}
+use Rattle.grammar.specs.Machine.{fine, fine-inj}
 use Rattle.grammar.specs.Grammar.{
   Note,
   skip,
@@ -56,19 +56,19 @@ use Rattle.grammar.specs.Grammar.{
   oneCell,
 }
 use Rattle.grammar.specs.Grammar as G
-use Rattle.grammar.specs.Meaning.{Book, judge}
+use Rattle.grammar.specs.Meaning.{Book}
 use Rattle.grammar.specs.Outcome.{Stack}
 use Rattle.laws.specs.Walk.{walk, through, along-inv, kept-if, some-inj}
 use Rattle.laws.specs.Phases.{leaves, turns, proper, moves, every, from, to, in-turn}
-use Rattle.laws.specs.Sides.{Whole, aFile, aCell}
+use Rattle.laws.specs.Sides.{aFile}
 use Rattle.laws.specs.Taken.{As, Taken, terms, toks, tells, opensCell, those, cellWords}
-use Rattle.laws.specs.Behind.{Fed, fed, fed-uncons, fed-split, fed-append, tells-append, then-fine}
+use Rattle.laws.specs.Behind.{Fed, fed, fed-uncons, fed-split, tells-append, then-fine}
 use Rattle.laws.specs.Log.{starts}
 use Rattle.laws.specs.Exactly.{Follows}
 use Rattle.splice.specs.Swap.{swapped}
 use Rattle.splice.specs.Phases.{inNote, inAct, inMoves, inCell, in-cell}
 use Rattle.splice.specs.OneCell.{Block}
-use Rattle.splice.specs.Blocks.{Takes, fed-cons, fed-something, behind-keyword, cell-ends}
+use Rattle.splice.specs.Blocks.{Takes, behind-keyword, cell-ends}
 use Rattle.splice.specs.Several.{those-append}
 use Rattle.splice.specs.Shape.{isHeader, Shaped, Slashed, shape-walks, shape-steps, file-shaped, file-no-header}
 

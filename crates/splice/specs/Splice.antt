@@ -3,11 +3,11 @@
 -- '(' stood; one of the part behind moves by the difference in length. The header's texts, the divider and the time scale are the old file's.
 -- Assumes nothing.
 use mathlib.Core.Path.{_≡_, refl, sym, ap, subst, _∙_}
-use mathlib.Core.Bool.{Bool, true, false}
-use mathlib.Core.List.{List, [], _∷_, _++_, map, append-nil, append-assoc}
+use mathlib.Core.Bool.{Bool}
+use mathlib.Core.List.{List, [], _∷_, _++_, map, append-assoc}
 use Prim.Native.Nat.{ℕ, zero, suc, _+_, _-_, _≤_, _<_}
 use native.Mathlib.Omega.{arith}
-use lib.ListN.{length, getD, length-append}
+use lib.ListN.{length, length-append}
 use lib.Seq.{append-snoc}
 use Rattle.tokens.specs.Stream.{Placed, stream}
 use Rattle.grammar.specs.declared.Cell.{Cell}
@@ -15,49 +15,20 @@ use Rattle.grammar.specs.Machine.{fine}
 use Rattle.grammar.specs.Grammar.{file, oneCell}
 use Rattle.grammar.specs.Meaning.{Item, Log, Book, tidy}
 use Rattle.grammar.specs.Reading.{At, runs}
-use Rattle.grammar.specs.Outcome.{Stack, textLimit, readFile, readCell}
-use Rattle.laws.specs.Taken.{asFile, asCell, starting, file-is, Taken, toks, tells, opensCell, opensEntry, cellWords, entryWords}
+use Rattle.grammar.specs.Outcome.{textLimit, readFile, readCell}
+use Rattle.laws.specs.Taken.{asFile, asCell, starting, file-is, Taken, toks, opensCell, opensEntry, cellWords, entryWords}
 use Rattle.laws.specs.Behind.{Fed, fed, reaches}
 use Rattle.laws.specs.Exactly.{Follows, Says, read-exactly, cell-exactly, read-says, cell-says, whole}
 use Rattle.sound.specs.Sound.{Each, total, read-sound}
 use Rattle.splice.specs.Along.{moveTok}
 use Rattle.splice.specs.Moved.{moveCell, moveItem, moveTaken}
-use Rattle.splice.specs.OneCell.{Stands, Done, Adds}
-use Rattle.splice.specs.Near.{NearCell, NearItem, NearLog, NearTexts}
+use Rattle.splice.specs.OneCell.{Stands, Adds}
+use Rattle.splice.specs.Near.{NearCell, NearItem, NearTexts}
 use Rattle.splice.specs.Names.{Words, Named, named, front-near, front-texts, incoming-near, behind-near, token-inside, behind-cells, same-items, cells-ahead, items-ahead}
 use Rattle.splice.specs.Several.{count-moved, each-left, each-right}
 use Rattle.splice.specs.Span.{cellFrom, cellTo, newFile, takenOf, taken-is, newFileOf, CellAt, cell-at, Tail, tail-of, Begins}
 use Rattle.splice.specs.Carried.{Incoming, incoming, newTaken, new-carried}
-use Rattle.splice.specs.Parts.{
-  Old,
-  old,
-  Sizes,
-  sizes,
-  old-cell,
-  old-keeps,
-  file-begins,
-  toks-append,
-  toks-new,
-  old-entries,
-  entriesAt,
-  NewRun,
-  new-run,
-  those-sum,
-  block-cells,
-  block-entries,
-  total-append,
-  N,
-  q',
-  ns,
-  new-tokens,
-  from1,
-  to1,
-  from2,
-  to2,
-  same-file,
-  old-stands,
-  new-stands,
-}
+use Rattle.splice.specs.Parts.{Old, old, sizes, old-cell, old-keeps, file-begins, toks-append, toks-new, old-entries, entriesAt, NewRun, new-run, those-sum, block-cells, block-entries, total-append, N, q', new-tokens, from1, to1, from2, to2, same-file, old-stands, new-stands}
 
 -- what the file (the text s), the incoming text (t) and the new file (n) list, read as st, st2 and st', where the file's cell number k stands from p to q and the incoming cell from
 -- p' to q'

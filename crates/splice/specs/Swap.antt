@@ -1,39 +1,22 @@
 -- THE TOKENS OF THE NEW FILE: those before the cell, the incoming cell's, and those behind it, with their places moved.
 -- Assumes nothing.
-use Prim.Native.Nat.{ℕ, zero, suc, _+_, _-_, _≤_, _<_}
+use Prim.Native.Nat.{ℕ, suc, _+_, _-_, _≤_, _<_}
 use native.Mathlib.Nat.{add-zero, le-refl}
 use native.Mathlib.Omega.{arith}
 use mathlib.Core.Path.{_≡_, refl, ap, _∙_, sym, subst}
 use mathlib.Core.Bool.{Bool, true, false}
-use mathlib.Core.Logic.{_⊎_, inl, inr}
+use mathlib.Core.Logic.{inl, inr}
 use mathlib.Core.List.{List, [], _∷_, _++_, map, append-assoc}
-use lib.Dec.{leb, eqb}
+use lib.Dec.{eqb}
 use lib.ListN.{length, take, drop, getD, length-append, length-drop, take-append-drop}
-use lib.Seq.{append-snoc, split-at, length-take-le, drop-cons, drop-drop, getD-drop, take-length}
+use lib.Seq.{append-snoc, split-at, length-take-le, drop-drop, getD-drop, take-length}
 use borrow.Author.Tests.{eqb-true}
 use Rattle.classes.specs.Choice.{pick, within}
 use Rattle.classes.specs.Classes.{classOf, isWhite, isPlain}
-use Rattle.tokens.specs.declared.Token.{Token}
-use Rattle.tokens.specs.declared.Token.the-variants.{Got, Stop}
+use Rattle.tokens.specs.declared.Token.the-variants.{Got}
 use Rattle.tokens.specs.Tokens.{tokenAt}
 use Rattle.tokens.specs.Stream.{Placed, part, stream, onwards}
-use Rattle.splice.specs.Along.{
-  Goes,
-  Bracket,
-  Starts,
-  stream-goes,
-  goes-stream,
-  goes-append,
-  goes-split,
-  token-starts,
-  goes-seam,
-  last-seam,
-  part-front,
-  part-behind,
-  moveTok,
-  goes-move,
-  stream-move,
-}
+use Rattle.splice.specs.Along.{Goes, Bracket, stream-goes, goes-stream, goes-append, goes-split, token-starts, goes-seam, last-seam, part-front, part-behind, moveTok, goes-move, stream-move}
 
 -- the bytes of the two brackets
 number-is : {P : Type 0} (v : Bool) (x y z : ℕ) → (v ≡ true → x ≡ z → P) → (v ≡ false → y ≡ z → P) → pick v x y ≡ z → P
