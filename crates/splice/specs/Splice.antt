@@ -30,8 +30,8 @@ use Rattle.splice.specs.Span.{cellFrom, cellTo, newFile, takenOf, taken-
 use Rattle.splice.specs.Carried.{Incoming, incoming, newTaken, new-carried}
 use Rattle.splice.specs.Parts.{Old, old, sizes, old-cell, old-keeps, file-begins, toks-append, toks-new, old-entries, entriesAt, NewRun, new-run, those-sum, block-cells, block-entries, total-append, N, q', new-tokens, from1, to1, from2, to2, same-file, old-stands, new-stands}
 
--- what the file (the text s), the incoming text (t) and the new file (n) list, read as st, st2 and st', where the file's cell number k stands from p to q and the incoming cell from
--- p' to q'
+-- what the file (the text s, read as st), the incoming text (t, st2) and the new file (n, st') list; the file's cell number k stands from p to q,
+-- the incoming cell from p' to q'
 pub record Spliced (s t n : List ℕ) (k p q p' q' : ℕ) (st st2 st' : At) : Type 0 where
   pub front : List Cell
   pub outgoing : Cell
