@@ -298,7 +298,7 @@ sound c t p f s k u e w =
     (numeric-looks s (c .cls) (t .bytes) (rw e at p) (both-true (eqb (t .kind) (kindOf (c .cls))) (looks (c .cls) (t .bytes)) f .1)) w
 
 -- what takes a token fits it
-taker-fits : (ss : Stack) (t : Placed) (w : Took Term N) → feed fits alts ss t ≡ some w → fits (w .by) t ≡ true
+pub taker-fits : (ss : Stack) (t : Placed) (w : Took Term N) → feed fits alts ss t ≡ some w → fits (w .by) t ≡ true
 taker-fits [] t w e = absurd (none≢some w e)
 taker-fits (lit c ∷ ss) t w e = by (fits c t) refl e
   where

@@ -68,7 +68,7 @@ module _ {C N : Type 0} (moves : ℕ → C → Option ℕ) (may : N → Bool) (f
   through q [] = some q
   through q (c ∷ cs) = along (moves q c) (λ p. through p cs)
 
-  through-cons : (q p o : ℕ) (c : C) (cs : List C) → moves q c ≡ some p → through p cs ≡ some o → through q (c ∷ cs) ≡ some o
+  pub through-cons : (q p o : ℕ) (c : C) (cs : List C) → moves q c ≡ some p → through p cs ≡ some o → through q (c ∷ cs) ≡ some o
   unfolding through
   through-cons q p o c cs m h = rw m h
 
@@ -83,7 +83,7 @@ module _ {C N : Type 0} (moves : ℕ → C → Option ℕ) (may : N → Bool) (f
   agrees-drop (suc k) f g [] e = refl
   agrees-drop (suc k) f g (a ∷ l) e = agrees-drop k f g l (both-true (lands (walk f (lit (a .head) ∷ a .rest)) g) (agrees f g l) e .1)
 
-  walk-append : (q : ℕ) (xs ys : List (Sym C N)) → walk q (xs ++ ys) ≡ along (walk q xs) (λ p. walk p ys)
+  pub walk-append : (q : ℕ) (xs ys : List (Sym C N)) → walk q (xs ++ ys) ≡ along (walk q xs) (λ p. walk p ys)
   unfolding walk
   walk-append q [] ys = refl
   walk-append q (x ∷ xs) ys = by (goes q x) (λ p. walk-append p xs ys)
@@ -104,7 +104,7 @@ module _ {C N : Type 0} (moves : ℕ → C → Option ℕ) (may : N → Bool) (f
       by (some p) ih = ih p
 
   module _ {Tok : Type 0} (fits : C → Tok → Bool) where
-    agrees-chosen : (f g : ℕ) (l : List (Alt C N)) (t : Tok) (a : Alt C N) → agrees f g l ≡ true → choose fits l t ≡ some a →
+    pub agrees-chosen : (f g : ℕ) (l : List (Alt C N)) (t : Tok) (a : Alt C N) → agrees f g l ≡ true → choose fits l t ≡ some a →
         walk f (lit (a .head) ∷ a .rest) ≡ some g
     unfolding agrees
     agrees-chosen f g [] t a p e = absurd (none≢some a e)

@@ -157,7 +157,7 @@ module _ (s s′ : List ℕ) (n : ℕ) (a : Alike s s′ n) where
       (λ t k. whence s n (leb (length s) i) _ _ (λ t k. k) (λ t k. k) k)
       (λ t k. whence s n (leb (length s) (blockEnd s i)) _ _ (λ t k. k) (λ t k. k) k) k)) z
 
-  alike-same : (i : ℕ) → i ≤ n → Inside s n (tokenAt s i) → tokenAt s′ i ≡ tokenAt s i
+  pub alike-same : (i : ℕ) → i ≤ n → Inside s n (tokenAt s i) → tokenAt s′ i ≡ tokenAt s i
   unfolding tokenAt
   alike-same i h z =
       let l = behind-in s n (blankEnd s i) (blankAt s i) z in
