@@ -6,12 +6,12 @@ use mathlib.Core.Bool.{Bool, true, false, not}
 use mathlib.Core.List.{List, [], _∷_, map}
 use mathlib.Core.Option.{none, some}
 use lib.Dec.{eqb, ltb}
-use lib.ListN.{length, getD, getElem?}
+use lib.ListN.{length, getD, getElem?, take, drop}
 use Rattle.classes.specs.Choice.{pick, and, or}
 use Rattle.wire.specs.Wire.{Bytes}
 use Rattle.grammar.specs.declared.Cell as read
 use Rattle.grammar.specs.Meaning.{Item}
-use Rattle.sheetform.specs.Form.{checkOf}
+use Rattle.sheetform.specs.Form.{checkOf, valuesAt}
 use Rattle.sheetform.specs.declared.SheetCheck.the-variants.{Good}
 use Rattle.sheetlaws.specs.Sheet.{place}
 use Rattle.sheet.specs.Find.{ArcsGood, InstanceSearch}
@@ -36,7 +36,7 @@ use Rattle.patching.specs.Scratch.{Holds18, Flags}
 use Rattle.arcrun.specs.declared.Least.{Least}
 use Rattle.arcrun.specs.declared.Least.the-variants as least
 use Rattle.arcrun.specs.Touch.{cellTouched}
-use Rattle.arcrun.specs.Run.{Of}
+use Rattle.arcrun.specs.Run.{Of, CellsRan}
 use Rattle.patch.specs.declared.Swap.{Swap}
 use Rattle.patch.specs.declared.Patched.{Patched}
 use Rattle.patch.specs.declared.Patched.the-variants as patched
@@ -59,6 +59,15 @@ betterOf least.Nothing b = b
 betterOf (least.Fault e n p i) least.Nothing = least.Fault e n p i
 betterOf (least.Fault e n p i) (least.Fault e2 n2 p2 i2) =
     pick (or (ltb e2 e) (and (eqb e2 e) (ltb n2 n))) (least.Fault e2 n2 p2 i2) (least.Fault e n p i)
+
+-- there is a fault, and what it answers
+abbrev pub isFault : Least → Bool
+isFault least.Nothing = false
+isFault (least.Fault e n p i) = true
+
+abbrev pub answerBy : Least → Patched
+answerBy least.Nothing = patched.Done
+answerBy (least.Fault e n p i) = patched.Refused n p i
 
 -- the flags behind the outgoing and the incoming cell
 abbrev pub bothTouched : (b file incoming : List ℕ) (slash : Bool) (n : ℕ) (t : List ℕ) (first count : ℕ) → Whom → (type t2 : List ℕ) (count2 : ℕ) → Whom
@@ -118,6 +127,12 @@ module _ (b : List ℕ) (n m f : ℕ) (file incoming : List ℕ) (slash : Bool) 
       × (r ≡ least.Nothing → Holds18 st′ j
       (groupLeft (arcSlots j) (touched b n m f file incoming slash g) (valuesOf (sheetAt b n m f)) (news b n m f file incoming slash g)))
 
+  -- one arc, the values of which came through the cells before the outgoing one without a fault
+  abbrev pub RestRan : (q : ℕ) (flags st st′ : List ℕ) → Least → Type 0
+  RestRan q flags st st′ r =
+      (st0 : List ℕ) → st0 ≡ take 144 (drop (valuesAt b q) b)
+      → CellsRan b file slash n m f cells 0 (swap .outgoing) entries q flags st0 st 0 least.Nothing → ArcRan q flags st′ r
+
   -- the outgoing and the incoming cell apply to these instances
   abbrev pub Movers : (g : Given cells entries cells2 entries2 (swap .cells) (swap .outgoing)) (leaver : Whom) (type : List ℕ) (newcomer : Whom) (type2 : List ℕ)
       → Type 0
@@ -151,6 +166,13 @@ module _ (b : List ℕ) (n m f : ℕ) (file incoming : List ℕ) (slash : Bool) 
       (comer b n m f file incoming slash g) v))
       × (current′ ≡ sheetOf b current n m f (history.patch (recordsAt b n m f) (valuesOf (sheetAt b n m f)) (olds b n m f file incoming slash g)
       (suc (swap .outgoing)) (at false 0) (comer b n m f file incoming slash g) v))
+
+  -- the same, by what its loops are told
+  abbrev pub TouchedSwapped : (leaver : Whom) (type : List ℕ) (newcomer : Whom) (type2 : List ℕ) → Least → (current current′ : List ℕ) → Patched → Type 0
+  TouchedSwapped leaver type newcomer type2 own current current′ r =
+      (Bytes b → checkOf b ≡ Good n m f → (g : Given cells entries cells2 entries2 (swap .cells) (swap .outgoing)) → Movers g leaver type newcomer type2)
+      → (Bytes b → checkOf b ≡ Good n m f → (g : Given cells entries cells2 entries2 (swap .cells) (swap .outgoing))
+      → LeastIs b n m f file incoming slash g (ownFault (news b n m f file incoming slash g)) own) → SwapRun current current′ r
 
 -- the incoming text is read, or refused with its own number and place; then the swap
 module _ (b : List ℕ) (n m f : ℕ) (file incoming : List ℕ) (slash : Bool) (unit : ℕ) (cells entries : List ℕ) (count k : ℕ) where

@@ -1,20 +1,28 @@
 -- One turn of each loop of the patch.
 -- Assumes nothing.
-use Prim.Native.Nat.{ℕ, _+_, _*_, _≤_, _<_}
-use mathlib.Core.Path.{_≡_, refl}
+use Prim.Native.Nat.{ℕ, suc, _+_, _*_, _≤_, _<_}
+use mathlib.Core.Path.{_≡_, refl, sym}
 use mathlib.Core.Bool.{Bool, true, false}
 use mathlib.Core.List.{List}
 use native.Mathlib.Numerals.{add-one}
 use native.Mathlib.Omega.{arith}
-use lib.ListN.{length, getD}
+use lib.ListN.{length, getD, take, drop}
 use lib.Seq.{paste}
 use borrow.Author.Tests.{eq-eqb, ne-eqb}
 use Rattle.classes.specs.Choice.{or}
 use Rattle.wire.specs.Wire.{be64, beBytes}
+use Rattle.sheetform.specs.Form.{valuesAt}
+use Rattle.annotate.specs.declared.Whom.{Whom}
 use Rattle.patching.specs.Scratch.{backWritten}
+use Rattle.arcrun.specs.declared.Least.{Least}
+use Rattle.arcrun.specs.declared.Least.the-variants as least
+use Rattle.arcrun.specs.Run.{CellRan, CellsRan}
 use Rattle.annotate.specs.Cells.{entriesBefore, entries-within}
 use Rattle.patch.specs.declared.Swap.{Swap}
-use Rattle.patch.specs.Loops.{anySet, SwapReady}
+use Rattle.patch.specs.declared.Patched.the-variants as patched
+use Rattle.patch.specs.Loops.{anySet, isFault, answerBy, SwapReady, ArcRan, RestRan, ArcsRan, ArcsWritten, TouchedSwapped}
+use Rattle.patch.specs.ArcLaws.{arc-ran-before, arc-ran-own, arc-ran-behind}
+use Rattle.patch.specs.SwapLaws.{swap-refused, swap-done}
 
 or-true : (t : Bool) → or t true ≡ true
 or-true true = refl
@@ -74,3 +82,59 @@ module _ {cells entries cells2 entries2 : List ℕ} {swap : Swap} (ready : SwapR
       let r = ready .entriesRoom in
       let r2 = ready .entriesRoom2 in
       omega arith
+
+-- A fault, or none.
+faulty : {A : Type 0} → false ≡ true → A
+faulty e = let z : _≡_ {A = ℕ} 0 1 = cc in absurd (omega arith)
+
+module _ (b : List ℕ) (n m f : ℕ) (file incoming : List ℕ) (slash : Bool) (cells entries cells2 entries2 : List ℕ) (swap : Swap) where
+  -- one arc, stopped before the incoming cell, in it, or not
+  module _ (q : ℕ) (flags : List ℕ) (ready : SwapReady cells entries cells2 entries2 swap) where
+    pub arc-stop : (st0 st1 : List ℕ) (r1 : Least) → isFault r1 ≡ true → st0 ≡ take 144 (drop (valuesAt b q) b)
+        → CellsRan b file slash n m f cells 0 (swap .outgoing) entries q flags st0 st1 0 r1
+        → ArcRan b n m f file incoming slash cells entries cells2 entries2 swap q flags st1 r1
+    arc-stop st0 st1 least.Nothing e s run = faulty e
+    arc-stop st0 st1 (least.Fault ev x p i) e s run =
+        arc-ran-before b n m f file incoming slash cells entries cells2 entries2 swap q flags st0 st1 (least.Fault ev x p i) ready s run ev x p i refl
+
+    pub arc-go : (st0 st1 st′ : List ℕ) (r1 r : Least) → isFault r1 ≡ false → st0 ≡ take 144 (drop (valuesAt b q) b)
+        → CellsRan b file slash n m f cells 0 (swap .outgoing) entries q flags st0 st1 0 r1
+        → RestRan b n m f file incoming slash cells entries cells2 entries2 swap q flags st1 st′ r
+        → ArcRan b n m f file incoming slash cells entries cells2 entries2 swap q flags st′ r
+    arc-go st0 st1 st′ least.Nothing r e s run rest = rest st0 s run
+    arc-go st0 st1 st′ (least.Fault ev x p i) r e s run rest = faulty (sym e)
+
+    pub rest-stop : (st1 st2 : List ℕ) (r2 : Least) → isFault r2 ≡ true
+        → CellRan b incoming slash n m f true cells2 0 entries2 0 q flags st1 st2 (swap .outgoing + swap .before) r2
+        → RestRan b n m f file incoming slash cells entries cells2 entries2 swap q flags st1 st2 r2
+    rest-stop st1 st2 least.Nothing e run st0 s first = faulty e
+    rest-stop st1 st2 (least.Fault ev x p i) e run st0 s first =
+        arc-ran-own b n m f file incoming slash cells entries cells2 entries2 swap q flags st0 st1 least.Nothing ready s first st2
+        (least.Fault ev x p i) refl run ev x p i refl
+
+    pub rest-go : (st1 st2 st3 : List ℕ) (r2 r3 : Least) → isFault r2 ≡ false
+        → CellRan b incoming slash n m f true cells2 0 entries2 0 q flags st1 st2 (swap .outgoing + swap .before) r2
+        → CellsRan b file slash n m f cells (suc (swap .outgoing)) (swap .cells) entries q flags st2 st3
+        (swap .outgoing + swap .before + 1 + swap .coming) r3
+        → RestRan b n m f file incoming slash cells entries cells2 entries2 swap q flags st1 st3 r3
+    rest-go st1 st2 st3 least.Nothing r3 e run more st0 s first =
+        arc-ran-behind b n m f file incoming slash cells entries cells2 entries2 swap q flags st0 st1 least.Nothing ready s first st2 least.Nothing
+        refl run st3 r3 refl more
+    rest-go st1 st2 st3 (least.Fault ev x p i) r3 e run more st0 s first = faulty (sym e)
+
+  -- the swap, refused or done
+  module _ (leaver : Whom) (type : List ℕ) (newcomer : Whom) (type2 : List ℕ) (own : Least) where
+    pub touched-stop : (r : Least) (current : List ℕ) → isFault r ≡ true
+        → ArcsRan b n m f file incoming slash cells entries cells2 entries2 swap leaver type newcomer type2 own r
+        → TouchedSwapped b n m f file incoming slash cells entries cells2 entries2 swap leaver type newcomer type2 own current current (answerBy r)
+    touched-stop least.Nothing current e ran move owns = faulty e
+    touched-stop (least.Fault ev x p i) current e ran move owns =
+        swap-refused b n m f file incoming slash cells entries cells2 entries2 swap leaver type newcomer type2 own move owns ev x p i current ran
+
+    pub touched-go : (r : Least) (current current′ : List ℕ) → isFault r ≡ false
+        → ArcsRan b n m f file incoming slash cells entries cells2 entries2 swap leaver type newcomer type2 own r
+        → ArcsWritten b n m f file incoming slash cells entries cells2 entries2 swap leaver type newcomer type2 current current′
+        → TouchedSwapped b n m f file incoming slash cells entries cells2 entries2 swap leaver type newcomer type2 own current current′ patched.Done
+    touched-go least.Nothing current current′ e ran written move owns =
+        swap-done b n m f file incoming slash cells entries cells2 entries2 swap leaver type newcomer type2 own move owns current current′ ran written
+    touched-go (least.Fault ev x p i) current current′ e ran written move owns = faulty (sym e)

@@ -3,17 +3,20 @@
 // First decide, then write: the slots that the outgoing or the incoming cell supplies are found arc by arc; the values of such an arc run through
 // the new file's entries in an array of their own; the least fault, by its event in the new file, decides; and only then are values written.
 ghost use mathlib.Core.Path.{_≡_};
+ghost use mathlib.Core.Bool.{true};
 ghost use Prim.Native.Nat.{_+_, _*_, _/_, _≤_, _<_};
 ghost use lib.ListN.{length, getD, take, drop};
 ghost use Rattle.sheetform.specs.Form.{checkOf};
 ghost use Rattle.sheetform.specs.declared.SheetCheck.the-variants.{Good};
 ghost use Rattle.sheetlaws.specs.Sheet.{arNext};
 ghost use Rattle.sheet.specs.Find.{InsGood, InstanceSearch, ArcSearch};
+ghost use Rattle.sheet.specs.Same.{sameRecords};
 ghost use Rattle.annotate.specs.Whom.{InSheet};
 ghost use Rattle.annotate.specs.Entries.{refusalFor};
 ghost use Rattle.annotate.specs.Cells.{entriesBefore};
 ghost use Rattle.patching.specs.Scratch.{backWritten};
-ghost use Rattle.patch.specs.Loops.{anySet, betterOf, bothTouched, SwapReady, SwapFits, OwnEntries, OwnIs, ArcRan, ArcsRan, ArcsWritten, SwapRun, CellPatched};
+ghost use Rattle.patch.specs.Loops.{anySet, betterOf, bothTouched, SwapReady, SwapFits, OwnEntries, OwnIs, isFault, answerBy, RestRan, ArcRan, ArcsRan, ArcsWritten, TouchedSwapped, SwapRun, CellPatched};
+ghost use Rattle.patch.specs.declared.Patched.the-variants.{Refused};
 ghost use Rattle.patch.specs.Meaning.{course, PatchIs};
 use annotate::Whom;
 use apply::Plan;
@@ -74,6 +77,46 @@ fn any_set(flags: &[u8]) -> bool
     some
 }
 
+fn refused(number: u8, place: usize, incoming: bool) -> Patched
+    ensures { λ r. ⌜ r ≡ Refused number place incoming ⌝ }
+{
+    Patched::Refused {
+        number: number,
+        place: place,
+        incoming: incoming,
+    }
+}
+
+// Whether there is a fault.
+fn is_fault(least: Least) -> bool
+    ensures { λ r. ⌜ r ≡ isFault least ⌝ }
+{
+    match least {
+        Least::Nothing => false,
+        Least::Fault {
+            event,
+            number,
+            place,
+            incoming,
+        } => true,
+    }
+}
+
+// A fault as the answer.
+fn answer_of(least: Least) -> Patched
+    ensures { λ r. ⌜ r ≡ answerBy least ⌝ }
+{
+    match least {
+        Least::Nothing => Patched::Done,
+        Least::Fault {
+            event,
+            number,
+            place,
+            incoming,
+        } => refused(number, place, incoming),
+    }
+}
+
 // The lesser of two faults, by event and then by number; the first, if they are equal.
 fn better(a: Least, b: Least) -> Least
     ensures { λ r. ⌜ r ≡ betterOf a b ⌝ }
@@ -87,12 +130,7 @@ fn better(a: Least, b: Least) -> Least
             incoming,
         } => {
             match b {
-                Least::Nothing => Least::Fault {
-                    event: event,
-                    number: number,
-                    place: place,
-                    incoming: incoming,
-                },
+                Least::Nothing => a,
                 Least::Fault {
                     event: event2,
                     number: number2,
@@ -100,29 +138,14 @@ fn better(a: Least, b: Least) -> Least
                     incoming: incoming2,
                 } => {
                     if event2 < event {
-                        return Least::Fault {
-                            event: event2,
-                            number: number2,
-                            place: place2,
-                            incoming: incoming2,
-                        };
+                        return b;
                     }
                     if event2 == event {
                         if number2 < number {
-                            return Least::Fault {
-                                event: event2,
-                                number: number2,
-                                place: place2,
-                                incoming: incoming2,
-                            };
+                            return b;
                         }
                     }
-                    Least::Fault {
-                        event: event,
-                        number: number,
-                        place: place,
-                        incoming: incoming,
-                    }
+                    a
                 }
             }
         }
@@ -325,7 +348,70 @@ fn load_values(sheet: &[u8], at: usize, state: &mut [u8])
     }
 }
 
-// Takes the touched values of an arc from the starting sheet through the new file: the cells before, the incoming one, those behind.
+// Takes the touched values of an arc on through the incoming cell and those behind it.
+fn run_rest<'a>(
+    start: &[u8],
+    file: &'a [u8],
+    incoming: &'a [u8],
+    plan: Plan,
+    swap: Swap,
+    places: &[u32; 4096],
+    cells: &[u64],
+    entries: &[u64],
+    cells2: &[u64],
+    entries2: &[u64],
+    arc: usize,
+    flags: &[u8],
+    state: &mut [u8],
+) -> Least
+    requires { ⌜ (InstanceSearch (now start) (plan .instances) 12 (now places)) × (arNext (now start) arc ≤ length (now start))
+        × SwapReady (now cells) (now entries) (now cells2) (now entries2) swap × (length (now flags) ≡ 18) × (length (now state) ≡ 144) ⌝ }
+    ensures { λ r. ⌜ (length (now (state .exit)) ≡ 144) × RestRan (now (start .entry)) (plan .instances) (plan .arcs) (plan .first) (now (file .entry))
+        (now (incoming .entry)) (plan .slash) (now (cells .entry)) (now (entries .entry)) (now (cells2 .entry)) (now (entries2 .entry)) swap arc
+        (now (flags .entry)) (now (state .entry)) (now (state .exit)) r ⌝ }
+{
+    let k = swap.outgoing;
+    let event = k + swap.before;
+    let own = arcrun::run_cell(
+        start,
+        file,
+        incoming,
+        true,
+        plan,
+        places,
+        cells2,
+        0,
+        entries2,
+        0,
+        arc,
+        flags,
+        state,
+        event,
+    );
+    if is_fault(own) {
+        return own;
+    }
+    let behind = swap.before + swap.leaving;
+    let begin = event + 1 + swap.coming;
+    arcrun::run_cells(
+        start,
+        file,
+        incoming,
+        plan,
+        places,
+        cells,
+        k + 1,
+        swap.cells,
+        entries,
+        behind,
+        arc,
+        flags,
+        state,
+        begin,
+    )
+}
+
+// Takes them from the starting sheet through the new file: the cells before the outgoing one, the incoming one, those behind.
 fn run_arc<'a>(
     start: &[u8],
     file: &'a [u8],
@@ -365,72 +451,23 @@ fn run_arc<'a>(
         state,
         0,
     );
-    match front {
-        Least::Fault {
-            event,
-            number,
-            place,
-            incoming: side,
-        } => {
-            return Least::Fault {
-                event: event,
-                number: number,
-                place: place,
-                incoming: side,
-            };
-        }
-        Least::Nothing => {}
+    if is_fault(front) {
+        return front;
     }
-    let event = k + swap.before;
-    let own = arcrun::run_cell(
-        start,
-        file,
-        incoming,
-        true,
-        plan,
-        places,
-        cells2,
-        0,
-        entries2,
-        0,
-        arc,
-        flags,
-        state,
-        event,
-    );
-    match own {
-        Least::Fault {
-            event: e,
-            number,
-            place,
-            incoming: side,
-        } => {
-            return Least::Fault {
-                event: e,
-                number: number,
-                place: place,
-                incoming: side,
-            };
-        }
-        Least::Nothing => {}
-    }
-    let behind = swap.before + swap.leaving;
-    let begin = event + 1 + swap.coming;
-    arcrun::run_cells(
+    run_rest(
         start,
         file,
         incoming,
         plan,
+        swap,
         places,
         cells,
-        k + 1,
-        swap.cells,
         entries,
-        behind,
+        cells2,
+        entries2,
         arc,
         flags,
         state,
-        begin,
     )
 }
 
@@ -584,6 +621,71 @@ fn write_arcs<'a>(
     }
 }
 
+// Judges the touched slots, and writes them where there is no fault.
+fn swap_touched<'a>(
+    start: &[u8],
+    file: &'a [u8],
+    incoming: &'a [u8],
+    plan: Plan,
+    swap: Swap,
+    places: &[u32; 4096],
+    cells: &[u64],
+    entries: &[u64],
+    leaver: Whom,
+    leavertype: &[u8],
+    cells2: &[u64],
+    entries2: &[u64],
+    comer: Whom,
+    comertype: &[u8],
+    own: Least,
+    current: &mut [u8],
+) -> Patched
+    requires { ⌜ (SwapFits (now start) plan swap (now places) (now cells) (now entries) leaver (now cells2) (now entries2) comer)
+        × (length (now current) ≡ length (now start)) ⌝ }
+    ensures { λ r. ⌜ TouchedSwapped (now (start .entry)) (plan .instances) (plan .arcs) (plan .first) (now (file .entry)) (now (incoming .entry)) (plan .slash)
+        (now (cells .entry)) (now (entries .entry)) (now (cells2 .entry)) (now (entries2 .entry)) swap leaver (now (leavertype .entry)) comer
+        (now (comertype .entry)) own (now (current .entry)) (now (current .exit)) r ⌝ }
+{
+    let least = least_of_arcs(
+        start,
+        file,
+        incoming,
+        plan,
+        swap,
+        places,
+        cells,
+        entries,
+        leaver,
+        leavertype,
+        cells2,
+        entries2,
+        comer,
+        comertype,
+        own,
+    );
+    if is_fault(least) {
+        return answer_of(least);
+    }
+    write_arcs(
+        start,
+        file,
+        incoming,
+        plan,
+        swap,
+        places,
+        cells,
+        entries,
+        leaver,
+        leavertype,
+        cells2,
+        entries2,
+        comer,
+        comertype,
+        current,
+    );
+    Patched::Done
+}
+
 // Swaps one cell of a file that was read for the incoming one.
 fn swap_cell<'a>(
     start: &[u8],
@@ -614,7 +716,7 @@ fn swap_cell<'a>(
     let into = views::cell_at(cells2, 0);
     let comer = annotate::whom_of(start, incoming, plan, &places, into);
     let comertype = names::part_of(incoming, into.typefrom, into.typeto);
-    let least = least_of_arcs(
+    swap_touched(
         start,
         file,
         incoming,
@@ -630,41 +732,8 @@ fn swap_cell<'a>(
         comer,
         comertype,
         own,
-    );
-    match least {
-        Least::Fault {
-            event: e,
-            number,
-            place,
-            incoming: side,
-        } => {
-            Patched::Refused {
-                number: number,
-                place: place,
-                incoming: side,
-            }
-        }
-        Least::Nothing => {
-            write_arcs(
-                start,
-                file,
-                incoming,
-                plan,
-                swap,
-                &places,
-                cells,
-                entries,
-                leaver,
-                leavertype,
-                cells2,
-                entries2,
-                comer,
-                comertype,
-                current,
-            );
-            Patched::Done
-        }
-    }
+        current,
+    )
 }
 
 // Patches the current sheet: cell `number` of the file, from 1, is swapped for the incoming one. Each refusal has the paper's number, its
@@ -687,78 +756,92 @@ pub fn patch<'a>(
 {
     let check = sheetform::check_sheet(start);
     match check {
-        SheetCheck::Bad { number: k, place } => Patched::Refused {
-            number: 10,
-            place: 0,
-            incoming: false,
-        },
+        SheetCheck::Bad { number: k, place } => refused(10, 0, false),
         SheetCheck::Good {
             instances,
             arcs,
             first_arc,
         } => {
             if current.len() != start.len() {
-                return Patched::Refused {
-                    number: 11,
-                    place: 0,
-                    incoming: false,
-                };
+                return refused(11, 0, false);
             }
             if !sheet::same_records(start, current, arcs, first_arc) {
-                return Patched::Refused {
-                    number: 18,
-                    place: 0,
-                    incoming: false,
-                };
+                return refused(18, 0, false);
             }
-            let read = reader::read_file(file, cells, entries);
-            let answer = read.answer;
-            match answer {
-                Answer::Refused { number: n, place } => Patched::Refused {
-                    number: n,
-                    place: place,
-                    incoming: false,
-                },
-                Answer::Read {
-                    cells: count,
-                    entries: all,
-                } => {
-                    if number == 0 {
-                        return Patched::Refused {
-                            number: 17,
-                            place: 0,
-                            incoming: false,
-                        };
-                    }
-                    if number > count {
-                        return Patched::Refused {
-                            number: 17,
-                            place: 0,
-                            incoming: false,
-                        };
-                    }
-                    let plan = Plan {
-                        instances: instances,
-                        arcs: arcs,
-                        first: first_arc,
-                        slash: read.slash,
-                    };
-                    patch_cell(
-                        start,
-                        file,
-                        number - 1,
-                        incoming,
-                        current,
-                        plan,
-                        read.unit,
-                        cells,
-                        count,
-                        entries,
-                        cells2,
-                        entries2,
-                    )
-                }
+            patch_file(
+                start,
+                file,
+                number,
+                incoming,
+                current,
+                instances,
+                arcs,
+                first_arc,
+                cells,
+                entries,
+                cells2,
+                entries2,
+            )
+        }
+    }
+}
+
+// The two sheets fit: reads the file and looks the cell up.
+fn patch_file<'a>(
+    start: &[u8],
+    file: &'a [u8],
+    number: usize,
+    incoming: &'a [u8],
+    current: &mut [u8],
+    instances: usize,
+    arcs: usize,
+    first: usize,
+    cells: &mut [u64],
+    entries: &mut [u64],
+    cells2: &mut [u64],
+    entries2: &mut [u64],
+) -> Patched
+    requires { ⌜ (checkOf (now start) ≡ Good instances arcs first) × (length (now current) ≡ length (now start))
+        × (sameRecords (now start) (now current) arcs first ≡ true) ⌝ }
+    ensures { λ r. ⌜ PatchIs (now (start .entry)) (course (now (start .entry)) (now (file .entry)) number (now (incoming .entry)) (now (current .entry))
+        (length (now (cells .entry)) / 7) (length (now (entries .entry)) / 28) (length (now (cells2 .entry)) / 7) (length (now (entries2 .entry)) / 28))
+        (now (cells .entry)) (now (cells .exit)) (now (entries .entry)) (now (entries .exit)) (now (cells2 .entry)) (now (cells2 .exit))
+        (now (entries2 .entry)) (now (entries2 .exit)) (now (current .entry)) (now (current .exit)) r ⌝ }
+{
+    let read = reader::read_file(file, cells, entries);
+    let answer = read.answer;
+    match answer {
+        Answer::Refused { number: n, place } => refused(n, place, false),
+        Answer::Read {
+            cells: count,
+            entries: all,
+        } => {
+            if number == 0 {
+                return refused(17, 0, false);
             }
+            if number > count {
+                return refused(17, 0, false);
+            }
+            let plan = Plan {
+                instances: instances,
+                arcs: arcs,
+                first: first,
+                slash: read.slash,
+            };
+            patch_cell(
+                start,
+                file,
+                number - 1,
+                incoming,
+                current,
+                plan,
+                read.unit,
+                cells,
+                count,
+                entries,
+                cells2,
+                entries2,
+            )
         }
     }
 }
@@ -787,11 +870,7 @@ fn patch_cell<'a>(
     let read = reader::read_cell(incoming, plan.slash, unit, cells2, entries2);
     let answer = read.answer;
     match answer {
-        Answer::Refused { number, place } => Patched::Refused {
-            number: number,
-            place: place,
-            incoming: true,
-        },
+        Answer::Refused { number, place } => refused(number, place, true),
         Answer::Read {
             cells: one,
             entries: all,

@@ -1,6 +1,5 @@
 -- `patch::own_refusal` meets its contract.
 -- Assumes nothing.
-use Prim.Native.Nat.{_-_}
 use mathlib.Core.Path.{refl}
 use borrow.Author.Needs.{needs}
 use Rattle.annotate.specs.Entries.{rowsAt, refusalFor}

@@ -1,6 +1,6 @@
 -- `patch::patch_cell` meets its contract.
 -- Assumes nothing.
-use Prim.Native.Nat.{_+_, _-_, _*_}
+use Prim.Native.Nat.{_+_, _*_}
 use mathlib.Core.Path.{refl}
 use native.Mathlib.Omega.{arith}
 use lib.ListN.{getD}
@@ -16,6 +16,9 @@ read-cell-requires c κs = search needs
 
 enum-known-answer : tie.Need-enum-known-answer
 enum-known-answer c = search needs
+
+refused-requires : tie.Need-refused-requires
+refused-requires c κs = search needs
 
 enum-known-answer-2 : tie.Need-enum-known-answer-2
 enum-known-answer-2 c = search needs
@@ -106,13 +109,14 @@ same-length-2 c = search needs
 
 returns : tie.Need-returns
 returns c =
-    let args = c .before .before .before .before .before .before .before .before .before .before .before .before .before .before .before .before .before .before .args in
-    let read-cell = c .before .before .before .before .before .before .before .read-cell in
-    let answer = c .before .answer in
-    cell-unread (now (args .start)) (args .plan .instances) (args .plan .arcs) (args .plan .first) (now (args .file)) (now (args .incoming))
-    (args .plan .slash) (args .unit) (now (args .cells)) (now (args .entries)) (args .count) (args .outgoing) (now (args .cells2))
-    (read-cell .last .1 .1 .1 .0) (now (args .entries2)) (read-cell .last .1 .1 .1 .1 .0) (read-cell .result) (read-cell .ensures)
-    (answer .given .0 .0) (answer .given .0 .1 .0) (answer .given .1) (now (args .current))
+    let refused = c .refused in
+    let args = c .before .before .before .before .before .before .before .before .before .before .before .before .before .before .before .before .before .before .before .args in
+    let read-cell = c .before .before .before .before .before .before .before .before .read-cell in
+    let answer = c .before .before .answer in
+    rw (refused .ensures) (cell-unread (now (args .start)) (args .plan .instances) (args .plan .arcs) (args .plan .first) (now (args .file))
+    (now (args .incoming)) (args .plan .slash) (args .unit) (now (args .cells)) (now (args .entries)) (args .count) (args .outgoing)
+    (now (args .cells2)) (read-cell .last .1 .1 .1 .0) (now (args .entries2)) (read-cell .last .1 .1 .1 .1 .0) (read-cell .result)
+    (read-cell .ensures) (answer .given .0 .0) (answer .given .0 .1 .0) (answer .given .1) (now (args .current)))
 
 same-length-3 : tie.Need-same-length-3
 same-length-3 c = search needs
@@ -149,6 +153,7 @@ patch-cell-spec =
     (tie.spec
     read-cell-requires
     enum-known-answer
+    refused-requires
     enum-known-answer-2
     count-entries-requires
     mul-t26

@@ -1,13 +1,12 @@
 -- `patch::swap_cell` meets its contract.
 -- Assumes nothing.
-use Prim.Native.Nat.{_-_}
 use native.Mathlib.Omega.{arith}
 use denote.Ref.{now}
 use borrow.Author.Needs.{needs}
 use Rattle.sheet.specs.Find.{sheet-good, arcs-ready, instances-ready}
 use Rattle.patch.specs.OwnLaws.{own-least}
 use Rattle.patch.specs.Turns.{events-fit}
-use Rattle.patch.specs.SwapLaws.{MoversAre, movers, swap-refused, swap-done}
+use Rattle.patch.specs.SwapLaws.{MoversAre, movers}
 use Rattle.patch.proofs.swap_cell.Statement.{statement}
 use Rattle.patch.proofs.swap_cell.Tie as tie
 
@@ -92,37 +91,13 @@ whom-of-requires-2 c κs =
 part-of-requires-2 : tie.Need-part-of-requires-2
 part-of-requires-2 c κs = search needs
 
-least-of-arcs-requires : tie.Need-least-of-arcs-requires
-least-of-arcs-requires c κs =
-    let args = c .before .before .before .before .before .before .before .before .before .before .before .before .before .before .before .before .before .before .before .before .before .before .before .before .before .before .args in
-    let pre = c .before .before .before .before .before .before .before .before .before .before .before .before .before .before .before .before .before .before .before .before .before .before .before .before .before .before .pre in
-    let mark-instances = c .before .before .before .before .before .before .before .before .before .before .before .before .before .before .before .before .mark-instances in
-    let whom-of = c .before .before .before .before .before .before .whom-of in
-    let whom-of2 = c .before .before .whom-of2 in
-    let s = sheet-good (now (args .start)) (args .plan .instances) (args .plan .arcs) (args .plan .first) (pre .0) in
-    record {
-      ready = pre .1;
-      search = rw (mark-instances .ensures) (instances-ready (now (args .start)) (args .plan .instances)
-          (args .plan .arcs) (args .plan .first) _ (sheet-good (now (args .start)) (args .plan .instances) (args .plan .arcs) (args .plan .first)
-          (pre .0)) (search needs));
-      arcs = s .arcs;
-      leaverIn = whom-of .ensures .1;
-      comerIn = whom-of2 .ensures .1;
-    }
-
-enum-known-least : tie.Need-enum-known-least
-enum-known-least c = search needs
-
-enum-told : tie.Need-enum-told
-enum-told c = search needs
-
-write-arcs-requires : tie.Need-write-arcs-requires
-write-arcs-requires c κs =
-    let args = c .before .before .before .before .before .before .before .before .before .before .before .before .before .before .before .before .before .before .before .before .before .before .before .before .before .before .before .before .before .before .before .args in
-    let pre = c .before .before .before .before .before .before .before .before .before .before .before .before .before .before .before .before .before .before .before .before .before .before .before .before .before .before .before .before .before .before .before .pre in
-    let mark-instances = c .before .before .before .before .before .before .before .before .before .before .before .before .before .before .before .before .before .before .before .before .before .mark-instances in
-    let whom-of = c .before .before .before .before .before .before .before .before .before .before .before .whom-of in
-    let whom-of2 = c .before .before .before .before .before .before .before .whom-of2 in
+swap-touched-requires : tie.Need-swap-touched-requires
+swap-touched-requires c κs =
+    let args = c .before .before .before .before .before .before .before .before .before .before .before .before .before .before .before .before .before .before .before .before .before .before .before .before .before .before .before .args in
+    let pre = c .before .before .before .before .before .before .before .before .before .before .before .before .before .before .before .before .before .before .before .before .before .before .before .before .before .before .before .pre in
+    let mark-instances = c .before .before .before .before .before .before .before .before .before .before .before .before .before .before .before .before .before .mark-instances in
+    let whom-of = c .before .before .before .before .before .before .before .whom-of in
+    let whom-of2 = c .before .before .before .whom-of2 in
     let s = sheet-good (now (args .start)) (args .plan .instances) (args .plan .arcs) (args .plan .first) (pre .0) in (
       record {
         ready = pre .1;
@@ -136,6 +111,9 @@ write-arcs-requires c κs =
       pre .2,
     )
 
+same-length : tie.Need-same-length
+same-length c = search needs
+
 returns : tie.Need-returns
 returns c =
     let args = c .before .before .before .before .before .before .before .before .before .before .before .before .before .before .before .before .before .before .before .before .before .before .before .before .before .before .before .before .before .before .args in
@@ -145,54 +123,18 @@ returns c =
     let part-of2 = c .before .before .before .before .before .part-of2 in
     let cell-at = c .before .before .before .before .before .before .before .before .before .before .before .before .cell-at in
     let cell-at2 = c .before .before .before .before .before .before .before .before .cell-at2 in
+    let swap-touched = c .before .before .swap-touched in
     let own-fault = c .before .before .before .before .before .before .before .before .before .before .before .before .before .before .own-fault in
     let pre = c .before .before .before .before .before .before .before .before .before .before .before .before .before .before .before .before .before .before .before .before .before .before .before .before .before .before .before .before .before .before .pre in
-    let least = c .before .least in
-    let least-of-arcs = c .before .before .before .least-of-arcs in
     let move : MoversAre (now (args .start)) (args .plan .instances) (args .plan .arcs) (args .plan .first) (now (args .file))
     (now (args .incoming)) (args .plan .slash) (now (args .cells)) (now (args .entries)) (now (args .cells2)) (now (args .entries2)) (args .swap)
     (whom-of .result) (now (part-of .result)) (whom-of2 .result) (now (part-of2 .result)) = rw
     (whom-of .ensures .0, part-of .ensures, whom-of2 .ensures .0, part-of2 .ensures, cell-at .ensures, cell-at2 .ensures)
     (movers (now (args .start)) (args .plan .instances) (args .plan .arcs) (args .plan .first) (now (args .file)) (now (args .incoming))
     (args .plan .slash) (now (args .cells)) (now (args .entries)) (now (args .cells2)) (now (args .entries2)) (args .swap)) in
-    swap-refused (now (args .start)) (args .plan .instances) (args .plan .arcs) (args .plan .first) (now (args .file)) (now (args .incoming))
-    (args .plan .slash) (now (args .cells)) (now (args .entries)) (now (args .cells2)) (now (args .entries2)) (args .swap) (whom-of .result)
-    (now (part-of .result)) (whom-of2 .result) (now (part-of2 .result)) (own-fault .result) move
-    (λ y h g. own-least (now (args .start)) (args .plan .instances) (args .plan .arcs) (args .plan .first) (now (args .file))
-    (now (args .incoming)) (args .plan .slash) (args .swap .before) (own-fault .result) (pre .1 .before) (own-fault .ensures) y h g)
-    (least .given .0 .0) (least .given .0 .1 .0) (least .given .0 .1 .1 .0) (least .given .0 .1 .1 .1 .0) (now (args .current))
-    (rw (least .given .1) at (least-of-arcs .ensures))
-
-same-length : tie.Need-same-length
-same-length c = search needs
-
-returns-2 : tie.Need-returns-2
-returns-2 c =
-    let args = c .before .before .before .before .before .before .before .before .before .before .before .before .before .before .before .before .before .before .before .before .before .before .before .before .before .before .before .before .before .before .before .before .before .before .args in
-    let whom-of = c .before .before .before .before .before .before .before .before .before .before .before .before .before .before .whom-of in
-    let part-of = c .before .before .before .before .before .before .before .before .before .before .before .before .before .part-of in
-    let whom-of2 = c .before .before .before .before .before .before .before .before .before .before .whom-of2 in
-    let part-of2 = c .before .before .before .before .before .before .before .before .before .part-of2 in
-    let cell-at = c .before .before .before .before .before .before .before .before .before .before .before .before .before .before .before .before .cell-at in
-    let cell-at2 = c .before .before .before .before .before .before .before .before .before .before .before .before .cell-at2 in
-    let own-fault = c .before .before .before .before .before .before .before .before .before .before .before .before .before .before .before .before .before .before .own-fault in
-    let pre = c .before .before .before .before .before .before .before .before .before .before .before .before .before .before .before .before .before .before .before .before .before .before .before .before .before .before .before .before .before .before .before .before .before .before .pre in
-    let write-arcs = c .before .before .write-arcs in
-    let enum-told = c .before .before .before .before .before .enum-told in
-    let least-of-arcs = c .before .before .before .before .before .before .before .least-of-arcs in
-    let move : MoversAre (now (args .start)) (args .plan .instances) (args .plan .arcs) (args .plan .first) (now (args .file))
-    (now (args .incoming)) (args .plan .slash) (now (args .cells)) (now (args .entries)) (now (args .cells2)) (now (args .entries2)) (args .swap)
-    (whom-of .result) (now (part-of .result)) (whom-of2 .result) (now (part-of2 .result)) = rw
-    (whom-of .ensures .0, part-of .ensures, whom-of2 .ensures .0, part-of2 .ensures, cell-at .ensures, cell-at2 .ensures)
-    (movers (now (args .start)) (args .plan .instances) (args .plan .arcs) (args .plan .first) (now (args .file)) (now (args .incoming))
-    (args .plan .slash) (now (args .cells)) (now (args .entries)) (now (args .cells2)) (now (args .entries2)) (args .swap)) in
-    swap-done (now (args .start)) (args .plan .instances) (args .plan .arcs) (args .plan .first) (now (args .file)) (now (args .incoming))
-    (args .plan .slash) (now (args .cells)) (now (args .entries)) (now (args .cells2)) (now (args .entries2)) (args .swap) (whom-of .result)
-    (now (part-of .result)) (whom-of2 .result) (now (part-of2 .result)) (own-fault .result) move
-    (λ y h g. own-least (now (args .start)) (args .plan .instances) (args .plan .arcs) (args .plan .first) (now (args .file))
-    (now (args .incoming)) (args .plan .slash) (args .swap .before) (own-fault .result) (pre .1 .before) (own-fault .ensures) y h g)
-    (now (args .current)) (write-arcs .last .1 .1 .1 .1 .1 .1 .1 .1 .1 .1 .1 .1 .1 .1 .0) (rw (enum-told .given .1) at (least-of-arcs .ensures))
-    (write-arcs .ensures)
+    swap-touched .ensures move (λ y h g. own-least (now (args .start)) (args .plan .instances) (args .plan .arcs) (args .plan .first)
+    (now (args .file)) (now (args .incoming)) (args .plan .slash) (args .swap .before) (own-fault .result) (pre .1 .before) (own-fault .ensures)
+    y h g)
 
 pub swap-cell-spec : {M : Type 1} → statement M
 swap-cell-spec =
@@ -209,10 +151,6 @@ swap-cell-spec =
     cell-at-requires-2
     whom-of-requires-2
     part-of-requires-2
-    least-of-arcs-requires
-    enum-known-least
-    enum-told
-    write-arcs-requires
-    returns
+    swap-touched-requires
     same-length
-    returns-2)
+    returns)

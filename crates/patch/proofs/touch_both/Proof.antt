@@ -1,6 +1,5 @@
 -- `patch::touch_both` meets its contract.
 -- Assumes nothing.
-use Prim.Native.Nat.{_-_}
 use mathlib.Core.Path.{_∙_}
 use borrow.Author.Needs.{needs}
 use Rattle.patch.proofs.touch_both.Statement.{statement}
