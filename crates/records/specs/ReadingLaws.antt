@@ -52,7 +52,7 @@ rows-are : (t : List ℕ) (cs : List Cell) → CellsAre t (length cs) cs → rec
 rows-are t cs a = rows-take t (length cs) cs a (length cs) (omega arith) ∙ take-whole cs
 
 -- what the fill leaves, of a text that was read and of a refused one
-left-is : (o : Res At) (s : List ℕ) (cr ir : ℕ) (u : List ℕ) (rs : List Cell) → readFile cr ir s ≡ o
+pub left-is : (o : Res At) (s : List ℕ) (cr ir : ℕ) (u : List ℕ) (rs : List Cell) → readFile cr ir s ≡ o
     → recordsOf (cellsLeft o u) (countOf (answerOf o)) ++ drop (countOf (answerOf o)) rs ≡ recordsLeft o rs
 unfolding recordsOf
 left-is (fine st) s cr ir u rs e =
@@ -68,7 +68,7 @@ records-are s cr ir u u′ t t′ rs rs′ r n f e g =
     (f, g ∙ ap (λ j. recordsOf u′ j ++ drop j rs) m ∙ ap (λ v. recordsOf v k ++ drop k rs) (f .cells) ∙ left-is (readFile cr ir s) s cr ir u rs refl)
 
 -- a table is as long as it was, so it has a row for each cell
-fit-of : (o : Res At) (u : List ℕ) → length (cellsLeft o u) ≡ length u → 7 * countOf (answerOf o) ≤ length u
+pub fit-of : (o : Res At) (u : List ℕ) → length (cellsLeft o u) ≡ length u → 7 * countOf (answerOf o) ≤ length u
 fit-of (fine st) u e =
     let cs = st .book .log .cells in
     let a = length-append (cellRows cs) (drop (length (cellRows cs)) u) in
@@ -80,7 +80,7 @@ pub rows-fit : (o : Res At) (u u′ t t′ : List ℕ) (r : FileRead) → FileIs
 rows-fit o u u′ t t′ r f e = rw (f .says) (fit-of o u (ap length (sym (f .cells)) ∙ e))
 
 -- the table behind the part that the core was lent stays
-part-left : (o : Res At) (u : List ℕ) (m : ℕ) → m ≤ length u → length (cellsLeft o (take m u)) ≡ length (take m u)
+pub part-left : (o : Res At) (u : List ℕ) (m : ℕ) → m ≤ length u → length (cellsLeft o (take m u)) ≡ length (take m u)
     → cellsLeft o (take m u) ++ drop m u ≡ cellsLeft o u
 part-left (fine st) u m h e =
     let cs = st .book .log .cells in
