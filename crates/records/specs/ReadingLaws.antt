@@ -102,7 +102,7 @@ within-part s ir room u p t t′ r h f e =
     let k : roomFor (length u) room ≡ room = rw (lt-ltb room (length u / 7) h) in
     let fits = rows-fit (readFile room ir s) (take (7 * room) u) p t t′ r g e in
     let left : p ++ drop (7 * room) u ≡ cellsLeft (readFile room ir s) u =
-        ap (λ v. v ++ drop (7 * room) u) (g .cells) ∙ part-left (readFile room ir s) u (7 * room) inside (ap length (sym (g .cells)) ∙ e) in
+    ap (λ v. v ++ drop (7 * room) u) (g .cells) ∙ part-left (readFile room ir s) u (7 * room) inside (ap length (sym (g .cells)) ∙ e) in
     rw k (record { says = g .says; cells = left; entries = g .entries; slash = g .slash; unit = g .unit; texts = g .texts }, omega (arith, fits, lt))
 
 pub within-whole : (s : List ℕ) (ir room : ℕ) (u u′ t t′ : List ℕ) (r : FileRead) → length u / 7 ≤ room

@@ -37,7 +37,7 @@ pub fn store_record(records: &mut [Cell], k: usize, cell: Cell)
 }
 
 // Row k of a table of cells.
-pub fn row_at(table: &[u64], k: usize) -> Cell
+fn row_at(table: &[u64], k: usize) -> Cell
     requires { ⌜ 7 * k + 7 ≤ length (now table) ⌝ }
     ensures { λ r. ⌜ r ≡ recordOf (now (table .entry)) k ⌝ }
 {
@@ -73,14 +73,25 @@ fn cells_read(read: FileRead) -> usize
 {
     let answer = read.answer;
     match answer {
-        Answer::Refused { number: _, place: _ } => 0,
-        Answer::Read { cells: n, entries: _ } => n,
+        Answer::Refused {
+            number: _,
+            place: _,
+        } => 0,
+        Answer::Read {
+            cells: n,
+            entries: _,
+        } => n,
     }
 }
 
 // Reads a file as reader::read_file does, and the cells that were read into records too. There is room for as many cells as the table has rows
 // and the caller records. A refused file leaves all three as lent; the records behind the last cell stay as lent.
-pub fn read_file_records(text: &[u8], table: &mut [u64], entries: &mut [u64], records: &mut [Cell]) -> FileRead
+pub fn read_file_records(
+    text: &[u8],
+    table: &mut [u64],
+    entries: &mut [u64],
+    records: &mut [Cell],
+) -> FileRead
     ensures { λ r. ⌜ RecordsAre (readFile (roomFor (length (now (table .entry))) (length (now (records .entry)))) (length (now (entries .entry)) / 28)
         (now (text .entry))) (now (table .entry)) (now (table .exit)) (now (entries .entry)) (now (entries .exit)) (now (records .entry))
         (now (records .exit)) r ⌝ }

@@ -23,14 +23,13 @@ returns c =
     let args = c .before .before .before .before .before .before .before .before .before .before .args in
     let check2 = c .before .before .check2 in
     let check-sheet = c .before .before .before .before .check-sheet in
-    let if1 = c .if1 in
-    (
+    let if1 = c .if1 in (
       unfit-length (now (args .start)) (now (args .text)) (length (now (args .cells)) / 7) (length (now (args .entries)) / 28) (now (args .cells))
-      (now (args .cells)) (now (args .entries)) (now (args .entries)) (now (args .out)) (check2 .given .0 .0) (check2 .given .0 .1 .0)
-      (check2 .given .0 .1 .1 .0) (sym (check-sheet .ensures) ∙ check2 .given .1) (if1 .taken),
+          (now (args .cells)) (now (args .entries)) (now (args .entries)) (now (args .out)) (check2 .given .0 .0) (check2 .given .0 .1 .0)
+          (check2 .given .0 .1 .1 .0) (sym (check-sheet .ensures) ∙ check2 .given .1) (if1 .taken),
       unfit-length-none (now (args .start)) (now (args .text)) (length (now (args .cells)) / 7) (length (now (args .entries)) / 28) (now (args .cells))
-      (now (args .cells)) (now (args .entries)) (now (args .entries)) (now (args .out)) (check2 .given .0 .0) (check2 .given .0 .1 .0)
-      (check2 .given .0 .1 .1 .0) (sym (check-sheet .ensures) ∙ check2 .given .1) (if1 .taken),
+          (now (args .cells)) (now (args .entries)) (now (args .entries)) (now (args .out)) (check2 .given .0 .0) (check2 .given .0 .1 .0)
+          (check2 .given .0 .1 .1 .0) (sym (check-sheet .ensures) ∙ check2 .given .1) (if1 .taken),
     )
 
 read-file-requires : tie.Need-read-file-requires
@@ -60,14 +59,13 @@ returns-2 : tie.Need-returns-2
 returns-2 c =
     let args = c .before .before .before .before .before .before .before .before .before .args in
     let check = c .before .check in
-    let check-sheet = c .before .before .before .check-sheet in
-    (
+    let check-sheet = c .before .before .before .check-sheet in (
       unfit-sheet (now (args .start)) (now (args .text)) (length (now (args .cells)) / 7) (length (now (args .entries)) / 28) (now (args .cells))
-      (now (args .cells)) (now (args .entries)) (now (args .entries)) (now (args .out)) (check .given .0 .0) (check .given .0 .1 .0)
-      (sym (check-sheet .ensures) ∙ check .given .1),
+          (now (args .cells)) (now (args .entries)) (now (args .entries)) (now (args .out)) (check .given .0 .0) (check .given .0 .1 .0)
+          (sym (check-sheet .ensures) ∙ check .given .1),
       unfit-sheet-none (now (args .start)) (now (args .text)) (length (now (args .cells)) / 7) (length (now (args .entries)) / 28) (now (args .cells))
-      (now (args .cells)) (now (args .entries)) (now (args .entries)) (now (args .out)) (check .given .0 .0) (check .given .0 .1 .0)
-      (sym (check-sheet .ensures) ∙ check .given .1),
+          (now (args .cells)) (now (args .entries)) (now (args .entries)) (now (args .out)) (check .given .0 .0) (check .given .0 .1 .0)
+          (sym (check-sheet .ensures) ∙ check .given .1),
     )
 
 same-length : tie.Need-same-length
@@ -83,16 +81,15 @@ returns-3 c =
     let check2 = c .before .before .before .before .before .before .before .before .before .before .before .before .check2 in
     let check-sheet = c .before .before .before .before .before .before .before .before .before .before .before .before .before .before .check-sheet in
     let if1 = c .before .before .before .before .before .before .before .before .before .before .if1 in
-    let answer = c .before .answer in
-    (
+    let answer = c .before .answer in (
       unread-text (now (args .start)) (now (args .text)) (length (now (args .cells)) / 7) (length (now (args .entries)) / 28) (now (args .cells))
-      (read-file .last .1 .0) (now (args .entries)) (read-file .last .1 .1 .0) (now (args .out)) (check2 .given .0 .0) (check2 .given .0 .1 .0)
-      (check2 .given .0 .1 .1 .0) (sym (check-sheet .ensures) ∙ check2 .given .1) (if1 .left) (read-file .result) (read-file .ensures)
-      (answer .given .0 .0) (answer .given .0 .1 .0) (answer .given .1),
+          (read-file .last .1 .0) (now (args .entries)) (read-file .last .1 .1 .0) (now (args .out)) (check2 .given .0 .0) (check2 .given .0 .1 .0)
+          (check2 .given .0 .1 .1 .0) (sym (check-sheet .ensures) ∙ check2 .given .1) (if1 .left) (read-file .result) (read-file .ensures)
+          (answer .given .0 .0) (answer .given .0 .1 .0) (answer .given .1),
       unread-none (now (args .start)) (now (args .text)) (length (now (args .cells)) / 7) (length (now (args .entries)) / 28) (now (args .cells))
-      (read-file .last .1 .0) (now (args .entries)) (read-file .last .1 .1 .0) (now (args .out)) (check2 .given .0 .0) (check2 .given .0 .1 .0)
-      (check2 .given .0 .1 .1 .0) (sym (check-sheet .ensures) ∙ check2 .given .1) (if1 .left) (read-file .result) (read-file .ensures)
-      (answer .given .0 .0) (answer .given .0 .1 .0) (answer .given .1),
+          (read-file .last .1 .0) (now (args .entries)) (read-file .last .1 .1 .0) (now (args .out)) (check2 .given .0 .0) (check2 .given .0 .1 .0)
+          (check2 .given .0 .1 .1 .0) (sym (check-sheet .ensures) ∙ check2 .given .1) (if1 .left) (read-file .result) (read-file .ensures)
+          (answer .given .0 .0) (answer .given .0 .1 .0) (answer .given .1),
     )
 
 same-length-3 : tie.Need-same-length-3
@@ -113,17 +110,16 @@ returns-4 c =
     let if1 = c .before .before .before .before .before .before .before .before .before .before .before .before .before .before .before .before .if1 in
     let shared-slice-known = c .before .before .before .before .before .before .before .before .before .before .before .before .before .before .before .before .before .before .before .before .before .before .before .before .before .shared-slice-known in
     let answer2 = c .before .before .before .before .before .before .before .answer2 in
-    let apply-text = c .before .before .apply-text in
-    (
+    let apply-text = c .before .before .apply-text in (
       read-text (now (args .start)) (now (args .text)) (length (now (args .cells)) / 7) (length (now (args .entries)) / 28) (now (args .cells))
-      (read-file .last .1 .0) (now (args .entries)) (read-file .last .1 .1 .0) (now (args .out)) (check2 .given .0 .0) (check2 .given .0 .1 .0)
-      (check2 .given .0 .1 .1 .0) (sym (check-sheet .ensures) ∙ check2 .given .1) (if1 .left) (read-file .result) (read-file .ensures)
-      (λ i. shared-slice-known .given i .fits) (answer2 .given .0 .0) (answer2 .given .0 .1 .0) (answer2 .given .1) (apply-text .result)
-      (apply-text .last .1 .1 .1 .1 .1 .1 .0) (apply-text .ensures),
+          (read-file .last .1 .0) (now (args .entries)) (read-file .last .1 .1 .0) (now (args .out)) (check2 .given .0 .0) (check2 .given .0 .1 .0)
+          (check2 .given .0 .1 .1 .0) (sym (check-sheet .ensures) ∙ check2 .given .1) (if1 .left) (read-file .result) (read-file .ensures)
+          (λ i. shared-slice-known .given i .fits) (answer2 .given .0 .0) (answer2 .given .0 .1 .0) (answer2 .given .1) (apply-text .result)
+          (apply-text .last .1 .1 .1 .1 .1 .1 .0) (apply-text .ensures),
       read-count (now (args .start)) (now (args .text)) (length (now (args .cells)) / 7) (length (now (args .entries)) / 28) (now (args .cells))
-      (read-file .last .1 .0) (now (args .entries)) (read-file .last .1 .1 .0) (now (args .out)) (check2 .given .0 .0) (check2 .given .0 .1 .0)
-      (check2 .given .0 .1 .1 .0) (sym (check-sheet .ensures) ∙ check2 .given .1) (if1 .left) (read-file .result) (read-file .ensures)
-      (answer2 .given .0 .0) (answer2 .given .0 .1 .0) (answer2 .given .1),
+          (read-file .last .1 .0) (now (args .entries)) (read-file .last .1 .1 .0) (now (args .out)) (check2 .given .0 .0) (check2 .given .0 .1 .0)
+          (check2 .given .0 .1 .1 .0) (sym (check-sheet .ensures) ∙ check2 .given .1) (if1 .left) (read-file .result) (read-file .ensures)
+          (answer2 .given .0 .0) (answer2 .given .0 .1 .0) (answer2 .given .1),
     )
 
 pub annotate-counted-spec : {M : Type 1} → statement M

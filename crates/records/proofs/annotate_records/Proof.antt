@@ -77,9 +77,19 @@ abbrev Q : RattleType
 Q = F.the-row
 
 abbrev stayed : Stays (f.ended .signature .params) (f.ended .kept)
-stayed =
-    (stay-dropped (shrSliceOf (0 ∷ []) tt (plain (λ _. u8))) yes, (stay-dropped (shrSliceOf (1 ∷ []) tt (plain (λ _. u8))) yes, (gave-slice (2 ∷ []) tt (plain (λ _. u64)), (gave-slice (3 ∷ []) tt (plain (λ _. u64)),
-    (gave-slice (4 ∷ []) tt (plain (λ _. u8)), (gave-slice (5 ∷ []) tt (plain (λ _. R)), tt))))))
+stayed = (
+  stay-dropped (shrSliceOf (0 ∷ []) tt (plain (λ _. u8))) yes,
+  (
+    stay-dropped (shrSliceOf (1 ∷ []) tt (plain (λ _. u8))) yes,
+    (
+      gave-slice (2 ∷ []) tt (plain (λ _. u64)),
+      (
+        gave-slice (3 ∷ []) tt (plain (λ _. u64)),
+        (gave-slice (4 ∷ []) tt (plain (λ _. u8)), (gave-slice (5 ∷ []) tt (plain (λ _. R)), tt)),
+      ),
+    ),
+  ),
+)
 
 -- the contracts that the proof cites
 module _ {M : Type 1} (𝓤 : URA M) (H : Heap 𝓤) (A : Atoms 𝓤) (mem : Memory → SProp 𝓤) (run : Routine → Fun 𝓤) where
@@ -280,9 +290,16 @@ module _ {M : Type 1} (𝓤 : URA M) (H : Heap 𝓤) (A : Atoms 𝓤) (W : Given
 
 meets : {M : Type 1} (𝓤 : URA M) (H : Heap 𝓤) (A : Atoms 𝓤) → Given 𝓤 H A → (mem : Memory → SProp 𝓤) (run : Routine → Fun 𝓤) (𝓣 : Tables 𝓤 H) → Triple 𝓤 (𝓣 .C #records·annotate-within) (Within 𝓤 H A mem run)
     → Triple 𝓤 (𝓣 .C #records·cells-counted) (Cells 𝓤 H A mem run) → Triple 𝓤 (𝓣 .C #records·fill-records) (Filled 𝓤 H A mem run) → Meets 𝓤 H A f.signature (WpFn 𝓤 H (𝓣 .C) (𝓣 .Λ) code.function) (f.spec 𝓤 H A mem run)
-meets 𝓤 H A W mem run 𝓣 known₁ known₂ known₃ = walk-meets 𝓤 H A f.ended stayed W
-    (goes-dropped 𝓤 H A W 6 (shrSliceOf (0 ∷ []) tt (plain (λ _. u8))) yes (λ κs x f. refl), (goes-dropped 𝓤 H A W 6 (shrSliceOf (1 ∷ []) tt (plain (λ _. u8))) yes (λ κs x f. refl), (goes-gave-slice 𝓤 H A W 6 2 tt (plain (λ _. u64)),
-    (goes-gave-slice 𝓤 H A W 6 3 tt (plain (λ _. u64)), (goes-gave-slice 𝓤 H A W 6 4 tt (plain (λ _. u8)), (goes-gave-slice 𝓤 H A W 6 5 tt (plain (λ _. R)), tt))))))
+meets 𝓤 H A W mem run 𝓣 known₁ known₂ known₃ = walk-meets 𝓤 H A f.ended stayed W (
+  goes-dropped 𝓤 H A W 6 (shrSliceOf (0 ∷ []) tt (plain (λ _. u8))) yes (λ κs x f. refl),
+  (
+    goes-dropped 𝓤 H A W 6 (shrSliceOf (1 ∷ []) tt (plain (λ _. u8))) yes (λ κs x f. refl),
+    (
+      goes-gave-slice 𝓤 H A W 6 2 tt (plain (λ _. u64)),
+      (goes-gave-slice 𝓤 H A W 6 3 tt (plain (λ _. u64)), (goes-gave-slice 𝓤 H A W 6 4 tt (plain (λ _. u8)), (goes-gave-slice 𝓤 H A W 6 5 tt (plain (λ _. R)), tt))),
+    ),
+  ),
+)
     (f.clauses 𝓤 H A mem run) (WpFn 𝓤 H (𝓣 .C) (𝓣 .Λ) code.function) (WpFn-mono 𝓤 H (W .laws) 𝓣 code.function) (walks 𝓤 H A W mem run (𝓣 .C) (𝓣 .Λ) (fmOf 𝓤 H (W .laws) 𝓣) known₁ known₂ known₃)
 
 pub annotate-records-spec : {M : Type 1} → stated.statement M
