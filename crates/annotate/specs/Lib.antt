@@ -6,3 +6,4 @@ pub mod CellList
 pub mod EntryLaws
 pub mod CellLaws
 pub mod TextLaws
+pub mod Statements

@@ -29,9 +29,10 @@ use Rattle.grammar.specs.declared.ReadName.the-variants as rn
 use Rattle.cells.specs.declared.Instance.{Instance}
 use Rattle.cells.specs.declared.Instance.the-variants as ri
 use Rattle.cells.specs.declared.CellHead.{CellHead}
+use Rattle.cells.specs.declared.Sight.{Sight}
 use Rattle.cells.specs.declared.CellHead.the-variants as ch
 use Rattle.header.specs.Steps.{Takes, KeyRead, TextRead}
-use Rattle.grammar.specs.Grammar.{specs, instance, path, named, type, skip, cellTail, alts, keyword, _!_, _⇒_, ⟨, ⟩}
+use Rattle.grammar.specs.Grammar.{delay, check, specs, instance, path, named, type, skip, cellTail, alts, keyword, _!_, _⇒_, ⟨, ⟩}
 use Rattle.grammar.specs.Meaning.{Log, Item, entered, finished, noHead, nothing, celled, pathed, typed, noted}
 use Rattle.grammar.specs.Reading.{reading, stepped, goes, halts}
 use Rattle.grammar.specs.Outcome.{Stack, state}
@@ -51,6 +52,34 @@ after-more [] i l = refl
 after-more (x ∷ is) i l =
     ap (λ (z : List Item). record { texts = l .texts; cells = l .cells; items = z; begun = l .begun; head = noHead; values = []; value = nothing })
     (append-assoc (l .items) (x ∷ is) (i ∷ []))
+
+-- what stands at a place, seen: a refusal, or a token, long or not
+abbrev pub Sighted : List ℕ → ℕ → Sight → Type 0
+Sighted s p r =
+    (r .stopped ≡ true → tokenAt s p ≡ Stop (r .kind) (r .start))
+    × (r .stopped ≡ false → (l : Bool) × (tokenAt s p ≡ Got (r .kind) (r .start) (r .end) l))
+
+-- the letter of the entries of a group, or 0 where the entries are checks
+abbrev pub groupOf : Within → ℕ
+groupOf within.Cell = 0
+groupOf within.Delay = 0
+groupOf within.Absolute = 65
+groupOf within.Increment = 73
+groupOf within.Check = 0
+
+pub in-group : (w : Within) (d : Bool) → (groupOf w ≡ 0 → ⊥) → itemPlace w d ≡ delay (groupOf w) d
+in-group within.Cell d h = absurd (h refl)
+in-group within.Delay d h = absurd (h refl)
+in-group within.Absolute d h = refl
+in-group within.Increment d h = refl
+in-group within.Check d h = absurd (h refl)
+
+pub in-check : (w : Within) (d : Bool) → groupOf w ≡ 0 → itemPlace w d ≡ check d
+in-check within.Cell d h = refl
+in-check within.Delay d h = refl
+in-check within.Absolute d h = absurd (let z : _≡_ {A = ℕ} 65 0 = h in omega arith)
+in-check within.Increment d h = absurd (let z : _≡_ {A = ℕ} 73 0 = h in omega arith)
+in-check within.Check d h = refl
 
 -- these n entries of a cell have been read, from its first section on, up to this place
 abbrev pub Along : List ℕ → ℕ → Bool → ℕ → ℕ → ℕ → ℕ → Within → Bool → List Item → Type 0

@@ -9,10 +9,11 @@ ghost use Rattle.rules.specs.Contracts.{Listable, item};
 ghost use Rattle.tables.specs.Layout.{entryRow};
 ghost use Rattle.tables.specs.Pastes.{put};
 ghost use Rattle.rules.specs.Bodies.{Either, Turned, OpenTurned, shutBy, itemPlace};
-ghost use Rattle.cells.specs.Cells.{BodyRead, InstanceRead, PathHere, PathBehind, HeadRead};
+ghost use Rattle.cells.specs.Cells.{Sighted, groupOf, BodyRead, InstanceRead, PathHere, PathBehind, HeadRead};
 ghost use Rattle.tokens.specs.Stream.{placed};
 use tokens::Token;
 use tokens::token_from;
+use tokens::mark_from;
 use words::key_of;
 use names::is_path;
 use header::take_opened;
@@ -43,6 +44,14 @@ pub enum Instance {
 pub enum CellHead {
     Head { typefrom: usize, typeto: usize, sort: u8, pathfrom: usize, pathto: usize, end: usize },
     Refused { number: u8, place: usize },
+}
+
+// What stands at a place.
+pub struct Sight {
+    pub stopped: bool,
+    pub kind: u8,
+    pub start: usize,
+    pub end: usize,
 }
 
 // One of two keywords, the first or the one that follows it in number, right behind an opening bracket.
@@ -159,38 +168,70 @@ fn open_turn(text: &[u8], table: &[u8; 256], from: usize, within: Within, slash:
     }
 }
 
+// What stands at a place: a token's kind and ends, or, where there is none, the refusal's number as the kind and its place as the start.
+// Brackets are seen at once, with no token made.
+fn look(text: &[u8], table: &[u8; 256], from: usize) -> Sight
+    requires { ⌜ (now table ≡ classes) × (from ≤ length (now text)) ⌝ }
+    ensures { λ r. ⌜ Sighted (now (text .entry)) from r ⌝ }
+{
+    let m = mark_from(text, table, from);
+    let i = m.place;
+    let mark = m.kind;
+    if 2 <= mark {
+        return Sight { stopped: false, kind: mark, start: i, end: i + 1 };
+    }
+    let t = token_from(text, table, i);
+    match t {
+        Token::Stop { number, place } => Sight { stopped: true, kind: number, start: place, end: 0 },
+        Token::Got { kind, start, end, long: _ } => Sight { stopped: false, kind: kind, start: start, end: end },
+    }
+}
+
 // One step through a cell's sections, up to the next entry.
 fn body_turn(text: &[u8], table: &[u8; 256], from: usize, within: Within, some: bool, slash: bool) -> Turn
     requires { ⌜ (now table ≡ classes) × (from ≤ length (now text)) ⌝ }
     ensures { λ r. ⌜ Turned (now (text .entry)) from within some slash r ⌝ }
 {
-    let t = token_from(text, table, from);
-    match t {
-        Token::Stop { number, place } => Turn::Refused { number: number, place: place },
-        Token::Got { kind, start, end, long: _ } => {
-            if kind == 3 {
-                return shut(within, some, start, end);
-            }
-            if kind == 2 {
-                return open_turn(text, table, end, within, slash);
-            }
-            Turn::Refused { number: 4, place: start }
-        }
+    let seen = look(text, table, from);
+    let stopped = seen.stopped;
+    let kind = seen.kind;
+    let start = seen.start;
+    let end = seen.end;
+    if stopped {
+        return Turn::Refused { number: kind, place: start };
+    }
+    if kind == 3 {
+        return shut(within, some, start, end);
+    }
+    if kind == 2 {
+        return open_turn(text, table, end, within, slash);
+    }
+    Turn::Refused { number: 4, place: start }
+}
+
+// The letter of the group of entries that stand there, or 0 where they are checks.
+fn group_of(within: Within) -> u8
+    ensures { λ r. ⌜ r ≡ groupOf within ⌝ }
+{
+    match within {
+        Within::Absolute => 65,
+        Within::Increment => 73,
+        Within::Check => 0,
+        Within::Cell => 0,
+        Within::Delay => 0,
     }
 }
 
-// An entry behind its opening bracket.
+// An entry behind its opening bracket. Each reader is called in one place only, so that the record is made where it is used.
 fn read_entry(text: &[u8], table: &[u8; 256], from: usize, within: Within, slash: bool, unit: u8, room: usize) -> ReadEntry
     requires { ⌜ (now table ≡ classes) × (from ≤ length (now text)) ⌝ }
     ensures { λ r. ⌜ Listable (now (text .entry)) from (itemPlace within slash) slash unit room (r .status) (r .entry) (take (r .count) (r .list)) × (r .count ≤ 6) ⌝ }
 {
-    match within {
-        Within::Absolute => read_delay(text, table, from, slash, unit, 65, room),
-        Within::Increment => read_delay(text, table, from, slash, unit, 73, room),
-        Within::Check => read_check(text, table, from, slash, unit, room),
-        Within::Cell => read_check(text, table, from, slash, unit, room),
-        Within::Delay => read_check(text, table, from, slash, unit, room),
+    let group = group_of(within);
+    if group == 0 {
+        return read_check(text, table, from, slash, unit, room);
     }
+    read_delay(text, table, from, slash, unit, group, room)
 }
 
 // The record goes to its row, where the table is to be filled.

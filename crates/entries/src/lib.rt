@@ -13,8 +13,10 @@ ghost use Rattle.grammar.specs.Meaning.{wrongly};
 ghost use Rattle.rules.specs.Contracts.{refusalOf, NumberHere, Marked, Reads, ReadsValue, OpensValue, ReadsValues, OpensValues, ValuesFrom, PortHere, ReadsPort, EdgeIs, ReadsEnd, ReadsEdged, Entered, Listable, withValues};
 ghost use Rattle.rules.specs.Entries.{checkValues, SecondValue, delayTail, checkTail};
 ghost use Rattle.classes.specs.Choice.{pick};
+ghost use Rattle.entries.specs.Parts.{LeadRead, FirstRead, MiddleRead};
 use tokens::Token;
 use tokens::token_from;
+use tokens::mark_from;
 use words::key_of;
 use words::edge_of;
 use names::is_port;
@@ -102,7 +104,14 @@ pub fn expect(text: &[u8], table: &[u8; 256], from: usize, mark: u8) -> Mark
     requires { ⌜ (now table ≡ classes) × (from ≤ length (now text)) ⌝ }
     ensures { λ r. ⌜ Marked (now (text .entry)) from mark r ⌝ }
 {
-    let t = token_from(text, table, from);
+    let m = mark_from(text, table, from);
+    let i = m.place;
+    if m.kind == mark {
+        if 2 <= mark {
+            return Mark::At(i + 1);
+        }
+    }
+    let t = token_from(text, table, i);
     match t {
         Token::Stop { number, place } => Mark::Refused { number: number, place: place },
         Token::Got { kind, start, end, long: _ } => {
@@ -115,6 +124,19 @@ pub fn expect(text: &[u8], table: &[u8; 256], from: usize, mark: u8) -> Mark
 }
 
 // ---- values
+
+// The beginning of a value: all of it; or its first colon, and what stands before that; or a refusal.
+pub enum Lead {
+    Whole { v: Value, end: usize },
+    Colon { some: bool, min: Amount, end: usize },
+    Refused { number: u8, place: usize },
+}
+
+// A value's second colon, what stands between it and the first, and whether any number stands before it; or a refusal.
+pub enum Middle {
+    Colon { some: bool, typ: Amount, end: usize },
+    Refused { number: u8, place: usize },
+}
 
 // Behind a value's second colon; some: whether a number stands before.
 fn read_third(
@@ -155,34 +177,31 @@ fn read_third(
     }
 }
 
-// Behind a value's first colon.
-fn read_second(
-    text: &[u8],
-    table: &[u8; 256],
-    from: usize,
-    some: bool,
-    signed: bool,
-    unit: u8,
-    min: Amount,
-) -> ReadValue
+// Behind a value's first colon; some: whether a number stands before.
+fn read_second(text: &[u8], table: &[u8; 256], from: usize, some: bool, signed: bool, unit: u8) -> Middle
     requires { ⌜ (now table ≡ classes) × (from ≤ length (now text)) ⌝ }
-    ensures { λ r. ⌜ Reads (now (text .entry)) from (non (second some signed)) false (record { min = min; typ = Amount.Absent; max = Amount.Absent }) unit r ⌝ }
+    ensures { λ r. ⌜ MiddleRead (now (text .entry)) from some signed unit r ⌝ }
 {
-    let t = token_from(text, table, from);
+    let m = mark_from(text, table, from);
+    let i = m.place;
+    if m.kind == 4 {
+        return Middle::Colon { some: some, typ: Amount::Absent, end: i + 1 };
+    }
+    let t = token_from(text, table, i);
     match t {
-        Token::Stop { number, place } => ReadValue::Refused { number: number, place: place },
+        Token::Stop { number, place } => Middle::Refused { number: number, place: place },
         Token::Got { kind, start, end, long } => {
             if kind == 4 {
-                return read_third(text, table, end, some, signed, unit, min, Amount::Absent);
+                return Middle::Colon { some: some, typ: Amount::Absent, end: end };
             }
             let h = number_here(text, kind, start, end, long, signed, unit, false);
             match h {
-                Here::Refused { number, place } => ReadValue::Refused { number: number, place: place },
+                Here::Refused { number, place } => Middle::Refused { number: number, place: place },
                 Here::Time(z) => {
                     let m = expect(text, table, end, 4);
                     match m {
-                        Mark::Refused { number, place } => ReadValue::Refused { number: number, place: place },
-                        Mark::At(e) => read_third(text, table, e, true, signed, unit, min, Amount::Time(z)),
+                        Mark::Refused { number, place } => Middle::Refused { number: number, place: place },
+                        Mark::At(e) => Middle::Colon { some: true, typ: Amount::Time(z), end: e },
                     }
                 }
             }
@@ -191,44 +210,71 @@ fn read_second(
 }
 
 // Behind a value's first number.
-fn read_first(text: &[u8], table: &[u8; 256], from: usize, signed: bool, unit: u8, min: Amount) -> ReadValue
+fn read_first(text: &[u8], table: &[u8; 256], from: usize, signed: bool, unit: u8, min: Amount) -> Lead
     requires { ⌜ (now table ≡ classes) × (from ≤ length (now text)) ⌝ }
-    ensures { λ r. ⌜ Reads (now (text .entry)) from (non (first signed)) false (record { min = min; typ = Amount.Absent; max = Amount.Absent }) unit r ⌝ }
+    ensures { λ r. ⌜ FirstRead (now (text .entry)) from signed unit min r ⌝ }
 {
-    let t = token_from(text, table, from);
+    let m = mark_from(text, table, from);
+    let i = m.place;
+    if m.kind == 3 {
+        return Lead::Whole { v: Value { min: min, typ: min, max: min }, end: i + 1 };
+    }
+    if m.kind == 4 {
+        return Lead::Colon { some: true, min: min, end: i + 1 };
+    }
+    let t = token_from(text, table, i);
     match t {
-        Token::Stop { number, place } => ReadValue::Refused { number: number, place: place },
+        Token::Stop { number, place } => Lead::Refused { number: number, place: place },
         Token::Got { kind, start, end, long: _ } => {
             if kind == 3 {
-                return ReadValue::Value { v: Value { min: min, typ: min, max: min }, end: end };
+                return Lead::Whole { v: Value { min: min, typ: min, max: min }, end: end };
             }
             if kind == 4 {
-                return read_second(text, table, end, true, signed, unit, min);
+                return Lead::Colon { some: true, min: min, end: end };
             }
-            ReadValue::Refused { number: 4, place: start }
+            Lead::Refused { number: 4, place: start }
         }
     }
 }
 
-// A value, behind its opening bracket.
+// The beginning of a value, behind its opening bracket.
+fn read_lead(text: &[u8], table: &[u8; 256], from: usize, signed: bool, unit: u8) -> Lead
+    requires { ⌜ (now table ≡ classes) × (from ≤ length (now text)) ⌝ }
+    ensures { λ r. ⌜ LeadRead (now (text .entry)) from signed unit r ⌝ }
+{
+    let t = token_from(text, table, from);
+    match t {
+        Token::Stop { number, place } => Lead::Refused { number: number, place: place },
+        Token::Got { kind, start, end, long } => {
+            if kind == 3 {
+                return Lead::Whole { v: Value { min: Amount::Absent, typ: Amount::Absent, max: Amount::Absent }, end: end };
+            }
+            if kind == 4 {
+                return Lead::Colon { some: false, min: Amount::Absent, end: end };
+            }
+            let h = number_here(text, kind, start, end, long, signed, unit, true);
+            match h {
+                Here::Refused { number, place } => Lead::Refused { number: number, place: place },
+                Here::Time(z) => read_first(text, table, end, signed, unit, Amount::Time(z)),
+            }
+        }
+    }
+}
+
+// A value, behind its opening bracket. Each of its parts is read in one place, so that the value is made where it is returned.
 pub fn read_value(text: &[u8], table: &[u8; 256], from: usize, signed: bool, unit: u8) -> ReadValue
     requires { ⌜ (now table ≡ classes) × (from ≤ length (now text)) ⌝ }
     ensures { λ r. ⌜ ReadsValue (now (text .entry)) from signed unit r ⌝ }
 {
-    let t = token_from(text, table, from);
-    match t {
-        Token::Stop { number, place } => ReadValue::Refused { number: number, place: place },
-        Token::Got { kind, start, end, long } => {
-            if kind == 3 {
-                return ReadValue::Value { v: Value { min: Amount::Absent, typ: Amount::Absent, max: Amount::Absent }, end: end };
-            }
-            if kind == 4 {
-                return read_second(text, table, end, false, signed, unit, Amount::Absent);
-            }
-            let h = number_here(text, kind, start, end, long, signed, unit, true);
-            match h {
-                Here::Refused { number, place } => ReadValue::Refused { number: number, place: place },
-                Here::Time(z) => read_first(text, table, end, signed, unit, Amount::Time(z)),
+    let a = read_lead(text, table, from, signed, unit);
+    match a {
+        Lead::Refused { number, place } => ReadValue::Refused { number: number, place: place },
+        Lead::Whole { v, end } => ReadValue::Value { v: v, end: end },
+        Lead::Colon { some, min, end } => {
+            let b = read_second(text, table, end, some, signed, unit);
+            match b {
+                Middle::Refused { number, place } => ReadValue::Refused { number: number, place: place },
+                Middle::Colon { some: other, typ, end: behind } => read_third(text, table, behind, other, signed, unit, min, typ),
             }
         }
     }
@@ -244,6 +290,26 @@ fn open_value(text: &[u8], table: &[u8; 256], from: usize, signed: bool, unit: u
         Mark::Refused { number, place } => ReadValue::Refused { number: number, place: place },
         Mark::At(inside) => read_value(text, table, inside, signed, unit),
     }
+}
+
+// The same amount, made anew: its number is handed on, and not the room around it.
+fn again(a: Amount) -> Amount
+    ensures { λ r. ⌜ r ≡ a ⌝ }
+{
+    match a {
+        Amount::Absent => Amount::Absent,
+        Amount::Time(z) => Amount::Time(z),
+    }
+}
+
+// The same value, made anew.
+fn fresh(v: Value) -> Value
+    ensures { λ r. ⌜ r ≡ v ⌝ }
+{
+    let min = v.min;
+    let typ = v.typ;
+    let max = v.max;
+    Value { min: again(min), typ: again(typ), max: again(max) }
 }
 
 // No values, and why.
@@ -267,7 +333,7 @@ fn read_values(text: &[u8], table: &[u8; 256], from: usize, unit: u8) -> Values
         ReadValue::Refused { number, place } => no_values(number, place),
         ReadValue::Value { v, end } => {
             let mut list = [Value { min: Amount::Absent, typ: Amount::Absent, max: Amount::Absent }; 6];
-            list[0] = v;
+            list[0] = fresh(v);
             let mut n: usize = 1;
             let mut p = end;
             loop {
@@ -290,7 +356,7 @@ fn read_values(text: &[u8], table: &[u8; 256], from: usize, unit: u8) -> Values
                                     return no_values(number, place);
                                 }
                                 ReadValue::Value { v, end } => {
-                                    list[n] = v;
+                                    list[n] = fresh(v);
                                     n += 1;
                                     p = end;
                                 }

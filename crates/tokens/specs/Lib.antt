@@ -5,3 +5,4 @@ pub mod Shift
 pub mod Local
 pub mod Stream
 pub mod Examples
+pub mod Quick

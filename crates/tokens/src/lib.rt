@@ -7,6 +7,7 @@ ghost use Rattle.tokens.specs.Scan.{scanLen, scanSt};
 ghost use Rattle.tokens.specs.Machines.{wordStop, wordNext, wordEnd, blankStop, modeNext, sinceNext, textStop, closeStop, textNext, textHalts, textGoes, closeHalts, blockHalts};
 ghost use Rattle.tokens.specs.Tokens.{tokenHere, stringAt, tokenAt, spoilt, blockEnd, blankEnd, blankAt};
 ghost use Rattle.tokens.specs.Stream.{stream, count};
+ghost use Rattle.tokens.specs.Quick.{Signed};
 use classes::class_of;
 use classes::class_table;
 
@@ -108,7 +109,7 @@ fn word_next(state: u8, class: u8) -> u8
 fn plain_end(text: &[u8], table: &[u8; 256], from: usize) -> usize
     requires { ⌜ now table ≡ classes ⌝ }
     requires { ⌜ from ≤ length (now text) ⌝ }
-    ensures { λ r. ⌜ (wordEnd (now (text .entry)) r ≡ wordEnd (now (text .entry)) from) × (r ≤ length (now (text .entry))) ⌝ }
+    ensures { λ r. ⌜ (wordEnd (now (text .entry)) r ≡ wordEnd (now (text .entry)) from) × (r ≤ length (now (text .entry))) × (from ≤ r) ⌝ }
 {
     let mut i = from;
     while i < text.len() {
@@ -438,8 +439,8 @@ fn token_here(text: &[u8], table: &[u8; 256], i: usize) -> Token
     }
 }
 
-// The token from a place on, with the table of classes lent: for callers that go on from token to token.
-pub fn token_from(text: &[u8], table: &[u8; 256], from: usize) -> Token
+// Any token from a place on.
+fn token_any(text: &[u8], table: &[u8; 256], from: usize) -> Token
     requires { ⌜ now table ≡ classes ⌝ }
     requires { ⌜ from ≤ length (now text) ⌝ }
     ensures { λ r. ⌜ r ≡ tokenAt (now (text .entry)) from ⌝ }
@@ -512,4 +513,116 @@ pub fn count_tokens(text: &[u8]) -> usize
         from = end;
         n += 1;
     }
+}
+
+// Past the plain bytes from a place on, and the slashes that begin no comment: a word's end is the same from there.
+fn path_end(text: &[u8], table: &[u8; 256], from: usize) -> usize
+    requires { ⌜ now table ≡ classes ⌝ }
+    requires { ⌜ from ≤ length (now text) ⌝ }
+    ensures { λ r. ⌜ (wordEnd (now (text .entry)) r ≡ wordEnd (now (text .entry)) from) × (r ≤ length (now (text .entry))) ⌝ }
+{
+    let mut i = plain_end(text, table, from);
+    while i < text.len() {
+        if class_of(table, text[i]) != 8 {
+            return i;
+        }
+        let behind = peek(text, i + 1);
+        if behind == 47 {
+            return i;
+        }
+        if behind == 42 {
+            return i;
+        }
+        i = plain_end(text, table, i + 1);
+    }
+    i
+}
+
+// The same token, made anew. What token_from returns is then written once, not copied from what token_any wrote.
+fn anew(t: Token) -> Token
+    ensures { λ r. ⌜ r ≡ t ⌝ }
+{
+    match t {
+        Token::Stop { number, place } => Token::Stop {
+            number: number,
+            place: place,
+        },
+        Token::Got {
+            kind,
+            start,
+            end,
+            long,
+        } => Token::Got {
+            kind: kind,
+            start: start,
+            end: end,
+            long: long,
+        },
+    }
+}
+
+// The token from a place on, with the table of classes lent: for callers that go on from token to token. Most tokens are marks and words of
+// plain bytes and slashes, and are found by these few tests.
+pub fn token_from(text: &[u8], table: &[u8; 256], from: usize) -> Token
+    requires { ⌜ now table ≡ classes ⌝ }
+    requires { ⌜ from ≤ length (now text) ⌝ }
+    ensures { λ r. ⌜ r ≡ tokenAt (now (text .entry)) from ⌝ }
+{
+    let i = white_end(text, table, from);
+    if i < text.len() {
+        let class = class_of(table, text[i]);
+        if class == 7 {
+            let e = path_end(text, table, i);
+            if e < text.len() {
+                let after = class_of(table, text[e]);
+                if after <= 6 {
+                    if i < e {
+                        return Token::Got {
+                            kind: 7,
+                            start: i,
+                            end: e,
+                            long: 1024 < e - i,
+                        };
+                    }
+                }
+            }
+            return anew(token_any(text, table, i));
+        }
+        if 2 <= class {
+            if class <= 5 {
+                return Token::Got {
+                    kind: class,
+                    start: i,
+                    end: i + 1,
+                    long: false,
+                };
+            }
+        }
+    }
+    anew(token_any(text, table, i))
+}
+
+// The mark from a place on, or 0 where none is seen at once; and the place behind white space, from which the token is the same.
+pub struct Sign {
+    pub kind: u8,
+    pub place: usize,
+}
+
+pub fn mark_from(text: &[u8], table: &[u8; 256], from: usize) -> Sign
+    requires { ⌜ (now table ≡ classes) × (from ≤ length (now text)) ⌝ }
+    ensures { λ r. ⌜ Signed (now (text .entry)) from r ⌝ }
+{
+    let i = white_end(text, table, from);
+    if i < text.len() {
+        let class = class_of(table, text[i]);
+        if 2 <= class {
+            if class <= 5 {
+                return Sign {
+                    kind: class,
+                    place: i,
+                };
+            }
+        }
+    }
+    Sign { kind: 0, place: i }
 }

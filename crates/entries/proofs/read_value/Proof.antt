@@ -1,134 +1,100 @@
 -- `entries::read_value` meets its contract: each way through it has its rule.
 -- Assumes nothing.
 use Prim.Native.Nat.{_-_}
-use mathlib.Core.Path.{_≡_, sym, _∙_, subst}
-use mathlib.Core.Bool.{true, false}
-use native.Mathlib.Omega.{arith}
-use lib.IntN.{ℤ}
-use mir.Syntax.{w64}
-use mir.Val.{toZ, ofZ}
 use denote.Ref.{now}
 use borrow.Author.Needs.{needs}
-use Rattle.tokens.specs.Stream.{placed, onwards}
-use Rattle.grammar.specs.Ll.{non}
-use Rattle.grammar.specs.declared.Amount.the-variants.{Absent, Time}
-use Rattle.grammar.specs.declared.Here.the-variants as here
-use Rattle.grammar.specs.Grammar.{value, first}
-use Rattle.rules.specs.Contracts.{NumberHere, Reads}
-use Rattle.rules.specs.Rules.{ahead, stops, value-shut, value-colon, value-wrong, value-done}
+use Rattle.grammar.specs.declared.ReadValue.the-variants as rv
+use Rattle.entries.specs.Parts.{LeadRead, MiddleRead}
+use Rattle.entries.specs.declared.Lead.the-variants as lead
+use Rattle.entries.specs.declared.Middle.the-variants as middle
 use Rattle.entries.proofs.read_value.Statement.{statement}
 use Rattle.entries.proofs.read_value.Tie as tie
 
-token-from-requires : tie.Need-token-from-requires
-token-from-requires c κs = search needs
+read-lead-requires : tie.Need-read-lead-requires
+read-lead-requires c κs = search needs
 
-enum-known-t : tie.Need-enum-known-t
-enum-known-t c = search needs
+enum-known-a : tie.Need-enum-known-a
+enum-known-a c = search needs
 
-enum-known-t-2 : tie.Need-enum-known-t-2
-enum-known-t-2 c = search needs
+enum-known-a-2 : tie.Need-enum-known-a-2
+enum-known-a-2 c = search needs
 
-returns : tie.Need-returns
-returns c =
-    let args = c .before .before .before .before .before .before .args in
-    let t2 = c .before .before .t2 in
-    let pre = c .before .before .before .before .before .before .pre in
-    let token-from = c .before .before .before .before .token-from in
-    let if1 = c .if1 in
-    value-shut (now (args .text)) (args .from) ((t2 .given) .0 .0) ((t2 .given) .0 .1 .0) ((t2 .given) .0 .1 .1 .0) ((t2 .given) .0 .1 .1 .1 .0) (pre .1) (sym (token-from .ensures) ∙ (t2 .given) .1) (args .signed) (args .unit) (if1 .taken)
+enum-known-a-3 : tie.Need-enum-known-a-3
+enum-known-a-3 c = search needs
 
 read-second-requires : tie.Need-read-second-requires
 read-second-requires c κs =
-    let pre = c .before .before .before .before .before .before .before .pre in
-    let args = c .before .before .before .before .before .before .before .args in
-    let t2 = c .before .before .before .t2 in
-    let token-from = c .before .before .before .before .before .token-from in
-    (pre .0, (ahead (now (args .text)) (args .from) ((t2 .given) .0 .0) ((t2 .given) .0 .1 .0) ((t2 .given) .0 .1 .1 .0) ((t2 .given) .0 .1 .1 .1 .0) (pre .1) (sym (token-from .ensures) ∙ (t2 .given) .1)) .1)
+    let args = c .before .before .before .before .before .args in
+    let a3 = c .before .a3 in
+    let read-lead = c .before .before .before .read-lead in
+    let pre = c .before .before .before .before .before .pre in
+    let w : LeadRead (now (args .text)) (args .from) (args .signed) (args .unit) (lead.Colon (a3 .given .0 .0) (a3 .given .0 .1 .0) (a3 .given .0 .1 .1 .0)) = rw (a3 .given .1) at (read-lead .ensures) in
+    (pre .0, w .1)
+
+enum-known-b : tie.Need-enum-known-b
+enum-known-b c = search needs
+
+enum-known-b-2 : tie.Need-enum-known-b-2
+enum-known-b-2 c = search needs
+
+read-third-requires : tie.Need-read-third-requires
+read-third-requires c κs =
+    let args = c .before .before .before .before .before .before .before .before .before .args in
+    let a3 = c .before .before .before .before .before .a3 in
+    let b2 = c .before .b2 in
+    let read-second = c .before .before .before .read-second in
+    let pre = c .before .before .before .before .before .before .before .before .before .pre in
+    let u : MiddleRead (now (args .text)) (a3 .given .0 .1 .1 .0) (a3 .given .0 .0) (args .signed) (args .unit) (middle.Colon (b2 .given .0 .0) (b2 .given .0 .1 .0) (b2 .given .0 .1 .1 .0)) = rw (b2 .given .1) at (read-second .ensures) in
+    (pre .0, u .1)
+
+returns : tie.Need-returns
+returns c =
+    let a = c .before .a in
+    let read-lead = c .before .before .before .read-lead in
+    rw (a .given .1) at (read-lead .ensures)
 
 returns-2 : tie.Need-returns-2
 returns-2 c =
-    let args = c .before .before .before .before .before .before .before .before .args in
-    let t2 = c .before .before .before .before .t2 in
-    let pre = c .before .before .before .before .before .before .before .before .pre in
-    let token-from = c .before .before .before .before .before .before .token-from in
-    let read-second = c .read-second in
-    let if2 = c .before .if2 in
-    value-colon (now (args .text)) (args .from) ((t2 .given) .0 .0) ((t2 .given) .0 .1 .0) ((t2 .given) .0 .1 .1 .0) ((t2 .given) .0 .1 .1 .1 .0) (pre .1) (sym (token-from .ensures) ∙ (t2 .given) .1) (args .signed) (args .unit) (read-second .result) (if2 .taken) (read-second .ensures)
-
-number-here-requires : tie.Need-number-here-requires
-number-here-requires c κs =
-    let args = c .before .before .before .before .before .before .before .args in
-    let t2 = c .before .before .before .t2 in
-    let pre = c .before .before .before .before .before .before .before .pre in
-    let token-from = c .before .before .before .before .before .token-from in
-    let g = (onwards (now (args .text)) (args .from) ((t2 .given) .0 .0) ((t2 .given) .0 .1 .0) ((t2 .given) .0 .1 .1 .0) ((t2 .given) .0 .1 .1 .1 .0) (pre .1) (sym (token-from .ensures) ∙ (t2 .given) .1)) in (omega arith, g .2)
-
-enum-known-h : tie.Need-enum-known-h
-enum-known-h c = search needs
-
-enum-known-h-2 : tie.Need-enum-known-h-2
-enum-known-h-2 c = search needs
-
-read-first-requires : tie.Need-read-first-requires
-read-first-requires c κs =
-    let pre = c .before .before .before .before .before .before .before .before .before .before .before .pre in
-    let args = c .before .before .before .before .before .before .before .before .before .before .before .args in
-    let t2 = c .before .before .before .before .before .before .before .t2 in
-    let token-from = c .before .before .before .before .before .before .before .before .before .token-from in
-    (pre .0, (ahead (now (args .text)) (args .from) ((t2 .given) .0 .0) ((t2 .given) .0 .1 .0) ((t2 .given) .0 .1 .1 .0) ((t2 .given) .0 .1 .1 .1 .0) (pre .1) (sym (token-from .ensures) ∙ (t2 .given) .1)) .1)
+    let a2 = c .before .a2 in
+    let read-lead = c .before .before .before .read-lead in
+    rw (a2 .given .1) at (read-lead .ensures)
 
 returns-3 : tie.Need-returns-3
 returns-3 c =
-    let args = c .before .before .before .before .before .args in
-    let t = c .before .t in
-    let pre = c .before .before .before .before .before .pre in
-    let token-from = c .before .before .before .token-from in
-    λ v. stops (now (args .text)) (args .from) (t .given .0 .0) (t .given .0 .1 .0) (non (value (args .signed))) true v (args .unit) (pre .1) (sym (token-from .ensures) ∙ t .given .1)
+    let args = c .before .before .before .before .before .before .before .before .before .args in
+    let a3 = c .before .before .before .before .before .a3 in
+    let read-lead = c .before .before .before .before .before .before .before .read-lead in
+    let b = c .before .b in
+    let read-second = c .before .before .before .read-second in
+    let w : LeadRead (now (args .text)) (args .from) (args .signed) (args .unit) (lead.Colon (a3 .given .0 .0) (a3 .given .0 .1 .0) (a3 .given .0 .1 .1 .0)) = rw (a3 .given .1) at (read-lead .ensures) in
+    let u : MiddleRead (now (args .text)) (a3 .given .0 .1 .1 .0) (a3 .given .0 .0) (args .signed) (args .unit) (middle.Refused (b .given .0 .0) (b .given .0 .1 .0)) = rw (b .given .1) at (read-second .ensures) in
+    w .0 (rv.Refused (b .given .0 .0) (b .given .0 .1 .0)) (u (a3 .given .0 .1 .0))
 
 returns-4 : tie.Need-returns-4
 returns-4 c =
-    let args = c .before .before .before .before .before .before .before .before .before .before .before .args in
-    let t2 = c .before .before .before .before .before .before .before .t2 in
-    let h = c .before .h in
-    let number-here = c .before .before .before .number-here in
-    let pre = c .before .before .before .before .before .before .before .before .before .before .before .pre in
-    let token-from = c .before .before .before .before .before .before .before .before .before .token-from in
-    let if1 = c .before .before .before .before .before .if1 in
-    let if2 = c .before .before .before .before .if2 in
-    let a : (NumberHere (placed (now (args .text)) ((t2 .given) .0 .0) ((t2 .given) .0 .1 .0) ((t2 .given) .0 .1 .1 .0) ((t2 .given) .0 .1 .1 .1 .0)) (args .signed) (args .unit) true (here.Refused (h .given .0 .0) (h .given .0 .1 .0))) = rw (h .given .1) at (number-here .ensures) in
-    value-wrong (now (args .text)) (args .from) ((t2 .given) .0 .0) ((t2 .given) .0 .1 .0) ((t2 .given) .0 .1 .1 .0) ((t2 .given) .0 .1 .1 .1 .0) (pre .1) (sym (token-from .ensures) ∙ (t2 .given) .1) (args .signed) (args .unit) (h .given .0 .0) (h .given .0 .1 .0) (if1 .left) (if2 .left) a
-
-returns-5 : tie.Need-returns-5
-returns-5 c =
-    let args = c .before .before .before .before .before .before .before .before .before .before .before .before .args in
-    let t2 = c .before .before .before .before .before .before .before .before .t2 in
-    let h2 = c .before .before .h2 in
-    let number-here = c .before .before .before .before .number-here in
-    let known-told4 = c .before .known-told4 in
-    let read-first = c .read-first in
-    let pre = c .before .before .before .before .before .before .before .before .before .before .before .before .pre in
-    let token-from = c .before .before .before .before .before .before .before .before .before .before .token-from in
-    let if1 = c .before .before .before .before .before .before .if1 in
-    let if2 = c .before .before .before .before .before .if2 in
-    let a : (NumberHere (placed (now (args .text)) ((t2 .given) .0 .0) ((t2 .given) .0 .1 .0) ((t2 .given) .0 .1 .1 .0) ((t2 .given) .0 .1 .1 .1 .0)) (args .signed) (args .unit) true (here.Time (h2 .given .0 .0))) = rw (h2 .given .1) at (number-here .ensures) in
-    let f : toZ w64 (ofZ w64 (h2 .given .0 .0)) ≡ (h2 .given .0 .0) = search (needs, known-told4 .given) in
-    let u = subst (λ (x : ℤ). Reads (now (args .text)) ((t2 .given) .0 .1 .1 .0) (non (first (args .signed))) false (record { min = Time x; typ = Absent; max = Absent }) (args .unit) (read-first .result)) f (read-first .ensures) in
-    value-done (now (args .text)) (args .from) ((t2 .given) .0 .0) ((t2 .given) .0 .1 .0) ((t2 .given) .0 .1 .1 .0) ((t2 .given) .0 .1 .1 .1 .0) (pre .1) (sym (token-from .ensures) ∙ (t2 .given) .1) (args .signed) (args .unit) (h2 .given .0 .0) (read-first .result) (if1 .left) (if2 .left) a u
+    let args = c .before .before .before .before .before .before .before .before .before .before .args in
+    let a3 = c .before .before .before .before .before .before .a3 in
+    let read-lead = c .before .before .before .before .before .before .before .before .read-lead in
+    let b2 = c .before .before .b2 in
+    let read-second = c .before .before .before .before .read-second in
+    let read-third = c .read-third in
+    let w : LeadRead (now (args .text)) (args .from) (args .signed) (args .unit) (lead.Colon (a3 .given .0 .0) (a3 .given .0 .1 .0) (a3 .given .0 .1 .1 .0)) = rw (a3 .given .1) at (read-lead .ensures) in
+    let u : MiddleRead (now (args .text)) (a3 .given .0 .1 .1 .0) (a3 .given .0 .0) (args .signed) (args .unit) (middle.Colon (b2 .given .0 .0) (b2 .given .0 .1 .0) (b2 .given .0 .1 .1 .0)) = rw (b2 .given .1) at (read-second .ensures) in
+    w .0 (read-third .result) (u .0 (a3 .given .0 .1 .0) (read-third .result) (read-third .ensures))
 
 pub read-value-spec : {M : Type 1} → statement M
 read-value-spec =
     tie.close
     (tie.spec
-    token-from-requires
-    enum-known-t
-    enum-known-t-2
-    returns
+    read-lead-requires
+    enum-known-a
+    enum-known-a-2
+    enum-known-a-3
     read-second-requires
+    enum-known-b
+    enum-known-b-2
+    read-third-requires
+    returns
     returns-2
-    number-here-requires
-    enum-known-h
-    enum-known-h-2
-    read-first-requires
     returns-3
-    returns-4
-    returns-5)
+    returns-4)

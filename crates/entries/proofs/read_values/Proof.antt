@@ -41,21 +41,26 @@ enum-known-a-2 c =
     let match' = c .match in
     match' .keys2
 
+fresh-requires : tie.Need-fresh-requires Inv-loop μ-loop
+fresh-requires c κs = search needs
+
 array-set-from-list : tie.Need-array-set-from-list Inv-loop μ-loop
 array-set-from-list c = search needs
 
 loop-holds : tie.Need-loop-holds Inv-loop μ-loop
 loop-holds c =
-    let args = c .before .before .before .before .before .args in
-    let a2 = c .before .a2 in
-    let read-value = c .before .before .before .read-value in
-    let u : ReadsValue (now (args .text)) (args .from) true (args .unit) (rv.Value (a2 .given .0 .0) (a2 .given .0 .1 .0)) = rw (a2 .given .1) at (read-value .ensures) in
+    let args = c .before .before .before .before .before .before .args in
+    let a2 = c .before .before .a2 in
+    let read-value = c .before .before .before .before .read-value in
+    let fresh = c .fresh in
+    let t : ReadsValue (now (args .text)) (args .from) true (args .unit) (rv.Value (a2 .given .0 .0) (a2 .given .0 .1 .0)) = rw (a2 .given .1) at (read-value .ensures) in
+    let u : ReadsValue (now (args .text)) (args .from) true (args .unit) (rv.Value (fresh .result) (a2 .given .0 .1 .0)) = rw (fresh .ensures) t in
     let g = u nothing .1 in
-    (search needs, refl, omega arith, g .1, values-start (now (args .text)) (args .from) (args .unit) (a2 .given .0 .0) (a2 .given .0 .1 .0) u)
+    (search needs, refl, omega arith, g .1, values-start (now (args .text)) (args .from) (args .unit) (fresh .result) (a2 .given .0 .1 .0) u)
 
 token-from-requires : tie.Need-token-from-requires Inv-loop μ-loop
 token-from-requires c κs =
-    let pre = c .before .before .before .before .before .before .pre in
+    let pre = c .before .before .before .before .before .before .before .pre in
     let loop' = c .loop in
     (pre .0, (loop' .inv) .3)
 
@@ -70,7 +75,7 @@ no-values-requires-2 c κs = search needs
 returns : tie.Need-returns Inv-loop μ-loop
 returns c =
     let no-values2 = c .no-values2 in
-    let args = c .before .before .before .before .before .before .before .before .before .before .before .args in
+    let args = c .before .before .before .before .before .before .before .before .before .before .before .before .args in
     let loop' = c .before .before .before .before .before .loop in
     let t = c .before .before .t in
     let token-from = c .before .before .before .before .token-from in
@@ -83,7 +88,7 @@ enum-known-t-2 c =
 
 returns-2 : tie.Need-returns-2 Inv-loop μ-loop
 returns-2 c =
-    let args = c .before .before .before .before .before .before .before .before .before .before .before .args in
+    let args = c .before .before .before .before .before .before .before .before .before .before .before .before .args in
     let loop' = c .before .before .before .before .before .loop in
     let t2 = c .before .before .t2 in
     let token-from = c .before .before .before .before .token-from in
@@ -96,7 +101,7 @@ no-values-requires-3 c κs = search needs
 returns-3 : tie.Need-returns-3 Inv-loop μ-loop
 returns-3 c =
     let no-values3 = c .no-values3 in
-    let args = c .before .before .before .before .before .before .before .before .before .before .before .before .before .before .args in
+    let args = c .before .before .before .before .before .before .before .before .before .before .before .before .before .before .before .args in
     let loop' = c .before .before .before .before .before .before .before .before .loop in
     let t2 = c .before .before .before .before .before .t2 in
     let token-from = c .before .before .before .before .before .before .before .token-from in
@@ -106,8 +111,8 @@ returns-3 c =
 
 read-value-requires-2 : tie.Need-read-value-requires-2 Inv-loop μ-loop
 read-value-requires-2 c κs =
-    let pre = c .before .before .before .before .before .before .before .before .before .before .before .before .before .pre in
-    let args = c .before .before .before .before .before .before .before .before .before .before .before .before .before .args in
+    let pre = c .before .before .before .before .before .before .before .before .before .before .before .before .before .before .pre in
+    let args = c .before .before .before .before .before .before .before .before .before .before .before .before .before .before .args in
     let loop' = c .before .before .before .before .before .before .before .loop in
     let t2 = c .before .before .before .before .t2 in
     let token-from = c .before .before .before .before .before .before .token-from in
@@ -123,7 +128,7 @@ no-values-requires-4 c κs = search needs
 
 returns-4 : tie.Need-returns-4 Inv-loop μ-loop
 returns-4 c =
-    let args = c .before .before .before .before .before .before .before .before .before .before .before .before .before .before .before .before .before .before .args in
+    let args = c .before .before .before .before .before .before .before .before .before .before .before .before .before .before .before .before .before .before .before .args in
     let t2 = c .before .before .before .before .before .before .before .before .before .t2 in
     let b = c .before .before .b in
     let read-value2 = c .before .before .before .before .read-value2 in
@@ -140,6 +145,9 @@ enum-known-b-2 c =
     let match3 = c .match3 in
     match3 .keys2
 
+fresh-requires-2 : tie.Need-fresh-requires-2 Inv-loop μ-loop
+fresh-requires-2 c κs = search needs
+
 mul-list : tie.Need-mul-list Inv-loop μ-loop
 mul-list c = search needs
 
@@ -154,20 +162,22 @@ loop-less c = omega arith
 
 loop-again : tie.Need-loop-again Inv-loop μ-loop
 loop-again c =
-    let args = c .before .before .before .before .before .before .before .before .before .before .before .before .before .before .before .before .before .args in
-    let t2 = c .before .before .before .before .before .before .before .before .t2 in
-    let b2 = c .before .b2 in
-    let read-value2 = c .before .before .before .read-value2 in
-    let loop' = c .before .before .before .before .before .before .before .before .before .before .before .loop in
-    let token-from = c .before .before .before .before .before .before .before .before .before .before .token-from in
-    let if2 = c .before .before .before .before .before .if2 in
-    let if3 = c .before .before .before .before .if3 in
-    let u : ReadsValue (now (args .text)) ((t2 .given) .0 .1 .1 .0) true (args .unit) (rv.Value (b2 .given .0 .0) (b2 .given .0 .1 .0)) = rw (b2 .given .1) at (read-value2 .ensures) in
+    let args = c .before .before .before .before .before .before .before .before .before .before .before .before .before .before .before .before .before .before .before .args in
+    let t2 = c .before .before .before .before .before .before .before .before .before .t2 in
+    let b2 = c .before .before .b2 in
+    let read-value2 = c .before .before .before .before .read-value2 in
+    let loop' = c .before .before .before .before .before .before .before .before .before .before .before .before .loop in
+    let token-from = c .before .before .before .before .before .before .before .before .before .before .before .token-from in
+    let if2 = c .before .before .before .before .before .before .if2 in
+    let if3 = c .before .before .before .before .before .if3 in
+    let fresh2 = c .fresh2 in
+    let t : ReadsValue (now (args .text)) ((t2 .given) .0 .1 .1 .0) true (args .unit) (rv.Value (b2 .given .0 .0) (b2 .given .0 .1 .0)) = rw (b2 .given .1) at (read-value2 .ensures) in
+    let u : ReadsValue (now (args .text)) ((t2 .given) .0 .1 .1 .0) true (args .unit) (rv.Value (fresh2 .result) (b2 .given .0 .1 .0)) = rw (fresh2 .ensures) t in
     let g = ahead (now (args .text)) (loop' .p) ((t2 .given) .0 .0) ((t2 .given) .0 .1 .0) ((t2 .given) .0 .1 .1 .0) ((t2 .given) .0 .1 .1 .1 .0) ((loop' .inv) .3) (sym (token-from .ensures) ∙ (t2 .given) .1) in
     let d = u nothing .1 in
-    let e : take (loop' .n + 1) (set (loop' .list) (loop' .n) (b2 .given .0 .0)) ≡ (take (loop' .n) (loop' .list)) ++ (b2 .given .0 .0) ∷ [] = rw add-one (take-suc-set (loop' .list) (loop' .n) (b2 .given .0 .0) (omega arith)) in
+    let e : take (loop' .n + 1) (set (loop' .list) (loop' .n) (fresh2 .result)) ≡ (take (loop' .n) (loop' .list)) ++ (fresh2 .result) ∷ [] = rw add-one (take-suc-set (loop' .list) (loop' .n) (fresh2 .result) (omega arith)) in
     (omega arith, simp length-set ((loop' .inv) .1), omega arith, d .1,
-    rw e (values-more (now (args .text)) (loop' .p) ((t2 .given) .0 .0) ((t2 .given) .0 .1 .0) ((t2 .given) .0 .1 .1 .0) ((t2 .given) .0 .1 .1 .1 .0) ((loop' .inv) .3) (sym (token-from .ensures) ∙ (t2 .given) .1) (args .from) (args .unit) (take (loop' .n) (loop' .list)) (loop' .n) ((loop' .inv) .4) (b2 .given .0 .0) (b2 .given .0 .1 .0) (if2 .taken) (if3 .left) u))
+    rw e (values-more (now (args .text)) (loop' .p) ((t2 .given) .0 .0) ((t2 .given) .0 .1 .0) ((t2 .given) .0 .1 .1 .0) ((t2 .given) .0 .1 .1 .1 .0) ((loop' .inv) .3) (sym (token-from .ensures) ∙ (t2 .given) .1) (args .from) (args .unit) (take (loop' .n) (loop' .list)) (loop' .n) ((loop' .inv) .4) (fresh2 .result) (b2 .given .0 .1 .0) (if2 .taken) (if3 .left) u))
 
 no-values-requires-5 : tie.Need-no-values-requires-5 Inv-loop μ-loop
 no-values-requires-5 c κs = search needs
@@ -175,7 +185,7 @@ no-values-requires-5 c κs = search needs
 returns-5 : tie.Need-returns-5 Inv-loop μ-loop
 returns-5 c =
     let no-values5 = c .no-values5 in
-    let args = c .before .before .before .before .before .before .before .before .before .before .before .before .before .args in
+    let args = c .before .before .before .before .before .before .before .before .before .before .before .before .before .before .args in
     let loop' = c .before .before .before .before .before .before .before .loop in
     let t2 = c .before .before .before .before .t2 in
     let token-from = c .before .before .before .before .before .before .token-from in
@@ -202,6 +212,7 @@ read-values-spec =
     enum-known-a
     no-values-requires
     enum-known-a-2
+    fresh-requires
     array-set-from-list
     loop-holds
     token-from-requires
@@ -217,6 +228,7 @@ read-values-spec =
     no-values-requires-4
     returns-4
     enum-known-b-2
+    fresh-requires-2
     mul-list
     array-set-from-list-2
     add-n
@@ -225,3 +237,4 @@ read-values-spec =
     no-values-requires-5
     returns-5
     returns-6)
+

@@ -12,7 +12,7 @@ use Rattle.tokens.proofs.plain_end.Statement.{statement}
 use Rattle.tokens.proofs.plain_end.Tie as tie
 
 abbrev Inv-loop : tie.InvT-loop
-Inv-loop s t at i₀ i = (i ≤ length s) × (wordEnd s i ≡ wordEnd s at)
+Inv-loop s t at i₀ i = (i ≤ length s) × (wordEnd s i ≡ wordEnd s at) × (at ≤ i)
 
 abbrev μ-loop : tie.MeasureT-loop
 μ-loop s t at i₀ i = length s - i
@@ -41,7 +41,7 @@ loop-again c =
     let s = now (c .before .before .before .before .before .before .args .text) in
     let k : classOf (getD s (l .i) 0) ≡ 7 = cc in
     let e = ap (λ (q : ℕ). l .i + 1 + scanLen wordHalts wordGoes q (drop (l .i + 1) s)) (sym (plain-same (getD s (l .i) 0) (getD s (l .i + 1) 0) k)) in
-    (search needs, e ∙ goes-on wordHalts wordGoes s 0 (l .i) (search needs) (plain-on _ _ k) ∙ l .inv .1)
+    (search needs, e ∙ goes-on wordHalts wordGoes s 0 (l .i) (search needs) (plain-on _ _ k) ∙ l .inv .1, search needs)
 
 returns-2 : tie.Need-returns-2 Inv-loop μ-loop
 returns-2 c = search needs
