@@ -75,6 +75,12 @@ entriesOut t (unfit n) = t
 entriesOut t (unread n q) = t
 entriesOut t (judged s st a) = entriesLeft (fine st) t
 
+-- how many cells the tables then hold
+unfoldable pub cellCount : Course → ℕ
+cellCount (unfit n) = 0
+cellCount (unread n q) = 0
+cellCount (judged s st a) = length (st .book .log .cells)
+
 -- THE CONTRACT of the annotator: its answer, and every lent byte and word at exit
 pub record AnnotateIs (start : List ℕ) (c : Course) (u u′ t t′ out out′ : List ℕ) (r : Annotated) : Type 0 where
   pub says : r ≡ answerOf c

@@ -38,7 +38,7 @@ use Rattle.applying.specs.Says.{cellsOf}
 use Rattle.applying.specs.Rows.{EntryIs, CellIs}
 use Rattle.annotate.specs.declared.Annotated.{Annotated}
 use Rattle.annotate.specs.declared.Annotated.the-variants.{Done, Refused}
-use Rattle.annotate.specs.Meaning.{said, Course, unfit, unread, judged, byText, bySheet, course, saysOf, answerOf, sheetOf, outOf, cellsOut, entriesOut, AnnotateIs}
+use Rattle.annotate.specs.Meaning.{said, Course, unfit, unread, judged, byText, bySheet, course, saysOf, answerOf, sheetOf, outOf, cellsOut, entriesOut, AnnotateIs, cellCount}
 use Rattle.annotate.specs.Entries.{Kept, Went, noItem, EntriesAre}
 use Rattle.annotate.specs.Cells.{entriesBefore, isRefusal, noCell, CellsAre, CellsRun, TextRun}
 use Rattle.annotate.specs.CellList.{before, before-is}
@@ -145,6 +145,11 @@ tables-at st u u′ t t′ count cr ir s e k c d = rw (c, d, k) (tables-left st 
 
 -- 3. For every input
 
+-- how many cells were read: none of a refused text
+abbrev countOf : reading.Answer → ℕ
+countOf (answer.Read n m) = n
+countOf (answer.Refused k q) = 0
+
 module _ (start′ text : List ℕ) (cr ir : ℕ) (u u′ t t′ out : List ℕ) where
   -- 10
   pub unfit-sheet : (k p : ℕ) → checkOf start′ ≡ Bad k p → AnnotateIs start′ (course start′ text cr ir (length out)) u u t t out out (Refused 10 0)
@@ -156,6 +161,16 @@ module _ (start′ text : List ℕ) (cr ir : ℕ) (u u′ t t′ out : List ℕ)
       → AnnotateIs start′ (course start′ text cr ir (length out)) u u t t out out (Refused 11 0)
   unfolding course decode answerOf outOf cellsOut entriesOut
   unfit-length n m f e h = rw (e, ne-eqb (length out) (length start′) h) (record { says = refl; cells = refl; entries = refl; sheet = refl })
+
+  -- no cell is read before them
+  pub unfit-sheet-none : (k p : ℕ) → checkOf start′ ≡ Bad k p → 0 ≡ cellCount (course start′ text cr ir (length out))
+  unfolding course decode cellCount
+  unfit-sheet-none k p e = rw e
+
+  pub unfit-length-none : (n m f : ℕ) → checkOf start′ ≡ Good n m f → (length out ≡ length start′ → ⊥)
+      → 0 ≡ cellCount (course start′ text cr ir (length out))
+  unfolding course decode cellCount
+  unfit-length-none n m f e h = rw (e, ne-eqb (length out) (length start′) h)
 
   module _ (n m f : ℕ) (good : checkOf start′ ≡ Good n m f) (same : length out ≡ length start′) (r : FileRead)
       (file-is : FileIs (readFile cr ir text) u u′ t t′ r) where
@@ -198,3 +213,15 @@ module _ (start′ text : List ℕ) (cr ir : ℕ) (u u′ t t′ out : List ℕ)
         let l = read-tables count all e in
         let w = (rw (l .4) at run) bytes (l .0 .book .log .cells) (l .0 .book .log .items) (l .5 .cells) (l .5 .entries) in
         rw (fits, l .1) (record { says = w .0; cells = l .2; entries = l .3; sheet = w .1 })
+
+    -- how many cells were read
+    pub count-is : (o : Res At) → readFile cr ir text ≡ o → countOf (file.answerOf o) ≡ cellCount (course start′ text cr ir (length out))
+    unfolding cellCount
+    count-is (fine st) e = rw (fits, e)
+    count-is (bad y p) e = rw (fits, e)
+
+    pub unread-none : (x q : ℕ) → r .answer ≡ answer.Refused x q → 0 ≡ cellCount (course start′ text cr ir (length out))
+    unread-none x q e = ap countOf (sym e ∙ file-is .says) ∙ count-is (readFile cr ir text) refl
+
+    pub read-count : (count all : ℕ) → r .answer ≡ answer.Read count all → count ≡ cellCount (course start′ text cr ir (length out))
+    read-count count all e = ap countOf (sym e ∙ file-is .says) ∙ count-is (readFile cr ir text) refl

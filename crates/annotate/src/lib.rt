@@ -9,7 +9,7 @@ ghost use Rattle.applying.specs.Ready.{Ready};
 ghost use Rattle.annotate.specs.Whom.{whomOf, InSheet};
 ghost use Rattle.annotate.specs.Entries.{refusalFor, appliedFor, EntriesRun};
 ghost use Rattle.annotate.specs.Cells.{entriesBefore, isRefusal, CellRun, CellsRun, TextRun};
-ghost use Rattle.annotate.specs.Meaning.{course, AnnotateIs};
+ghost use Rattle.annotate.specs.Meaning.{course, cellCount, AnnotateIs};
 use apply::Plan;
 use grammar::Cell;
 use reader::Answer;
@@ -19,6 +19,12 @@ use sheetform::SheetCheck;
 pub enum Annotated {
     Done,
     Refused { number: u8, place: usize },
+}
+
+// The answer, and how many cells of the text were read: none of a text that was refused or not reached.
+pub struct Counted {
+    pub answer: Annotated,
+    pub cells: usize,
 }
 
 // Which instances a cell's entries apply to: the one at a place, every one of the cell's type, or none, and why.
@@ -295,22 +301,27 @@ fn apply_text(
 
 // Annotates the starting sheet with a file: the output sheet, which is as long, gets the annotated one, and the tables what was read. Each
 // refusal has the paper's number and place; after 1 to 11 the output sheet is as lent, after 12 to 16 it equals the starting sheet.
-pub fn annotate(
+pub fn annotate_counted(
     start: &[u8],
     text: &[u8],
     cells: &mut [u64],
     entries: &mut [u64],
     out: &mut [u8],
-) -> Annotated
-    ensures { λ r. ⌜ AnnotateIs (now (start .entry)) (course (now (start .entry)) (now (text .entry)) (length (now (cells .entry)) / 7)
+) -> Counted
+    ensures { λ r. ⌜ (AnnotateIs (now (start .entry)) (course (now (start .entry)) (now (text .entry)) (length (now (cells .entry)) / 7)
         (length (now (entries .entry)) / 28) (length (now (out .entry)))) (now (cells .entry)) (now (cells .exit)) (now (entries .entry))
-        (now (entries .exit)) (now (out .entry)) (now (out .exit)) r ⌝ }
+        (now (entries .exit)) (now (out .entry)) (now (out .exit)) (r .answer))
+        × (r .cells ≡ cellCount (course (now (start .entry)) (now (text .entry)) (length (now (cells .entry)) / 7)
+        (length (now (entries .entry)) / 28) (length (now (out .entry))))) ⌝ }
 {
     let check = sheetform::check_sheet(start);
     match check {
-        SheetCheck::Bad { number, place } => Annotated::Refused {
-            number: 10,
-            place: 0,
+        SheetCheck::Bad { number, place } => Counted {
+            answer: Annotated::Refused {
+                number: 10,
+                place: 0,
+            },
+            cells: 0,
         },
         SheetCheck::Good {
             instances,
@@ -318,17 +329,23 @@ pub fn annotate(
             first_arc,
         } => {
             if out.len() != start.len() {
-                return Annotated::Refused {
-                    number: 11,
-                    place: 0,
+                return Counted {
+                    answer: Annotated::Refused {
+                        number: 11,
+                        place: 0,
+                    },
+                    cells: 0,
                 };
             }
             let read = reader::read_file(text, cells, entries);
             let answer = read.answer;
             match answer {
-                Answer::Refused { number, place } => Annotated::Refused {
-                    number: number,
-                    place: place,
+                Answer::Refused { number, place } => Counted {
+                    answer: Annotated::Refused {
+                        number: number,
+                        place: place,
+                    },
+                    cells: 0,
                 },
                 Answer::Read {
                     cells: count,
@@ -340,9 +357,29 @@ pub fn annotate(
                         first: first_arc,
                         slash: read.slash,
                     };
-                    apply_text(start, text, plan, cells, count, entries, out)
+                    let went = apply_text(start, text, plan, cells, count, entries, out);
+                    Counted {
+                        answer: went,
+                        cells: count,
+                    }
                 }
             }
         }
     }
+}
+
+// The same, for a caller who does not ask how many cells were read.
+pub fn annotate(
+    start: &[u8],
+    text: &[u8],
+    cells: &mut [u64],
+    entries: &mut [u64],
+    out: &mut [u8],
+) -> Annotated
+    ensures { λ r. ⌜ AnnotateIs (now (start .entry)) (course (now (start .entry)) (now (text .entry)) (length (now (cells .entry)) / 7)
+        (length (now (entries .entry)) / 28) (length (now (out .entry)))) (now (cells .entry)) (now (cells .exit)) (now (entries .entry))
+        (now (entries .exit)) (now (out .entry)) (now (out .exit)) r ⌝ }
+{
+    let counted = annotate_counted(start, text, cells, entries, out);
+    counted.answer
 }

@@ -1,13 +1,13 @@
--- `annotate::annotate` meets its contract.
+-- `annotate::annotate_counted` meets its contract.
 -- Assumes nothing.
 use Prim.Native.Nat.{_/_}
 use mathlib.Core.Path.{sym, _∙_}
 use lib.ListN.{length}
 use denote.Ref.{now}
 use borrow.Author.Needs.{needs}
-use Rattle.annotate.specs.TextLaws.{unfit-sheet, unfit-length, unread-text, read-tables, read-text}
-use Rattle.annotate.proofs.annotate.Statement.{statement}
-use Rattle.annotate.proofs.annotate.Tie as tie
+use Rattle.annotate.specs.TextLaws.{unfit-sheet, unfit-sheet-none, unfit-length, unfit-length-none, unread-text, unread-none, read-tables, read-text, read-count}
+use Rattle.annotate.proofs.annotate_counted.Statement.{statement}
+use Rattle.annotate.proofs.annotate_counted.Tie as tie
 
 check-sheet-requires : tie.Need-check-sheet-requires
 check-sheet-requires c κs = search needs
@@ -23,10 +23,14 @@ returns c =
     let args = c .before .before .before .before .before .before .before .before .before .before .args in
     let check2 = c .before .before .check2 in
     let check-sheet = c .before .before .before .before .check-sheet in
-    let if1 = c .if1 in
-    unfit-length (now (args .start)) (now (args .text)) (length (now (args .cells)) / 7) (length (now (args .entries)) / 28) (now (args .cells))
-    (now (args .cells)) (now (args .entries)) (now (args .entries)) (now (args .out)) (check2 .given .0 .0) (check2 .given .0 .1 .0)
-    (check2 .given .0 .1 .1 .0) (sym (check-sheet .ensures) ∙ check2 .given .1) (if1 .taken)
+    let if1 = c .if1 in (
+      unfit-length (now (args .start)) (now (args .text)) (length (now (args .cells)) / 7) (length (now (args .entries)) / 28) (now (args .cells))
+          (now (args .cells)) (now (args .entries)) (now (args .entries)) (now (args .out)) (check2 .given .0 .0) (check2 .given .0 .1 .0)
+          (check2 .given .0 .1 .1 .0) (sym (check-sheet .ensures) ∙ check2 .given .1) (if1 .taken),
+      unfit-length-none (now (args .start)) (now (args .text)) (length (now (args .cells)) / 7) (length (now (args .entries)) / 28) (now (args .cells))
+          (now (args .cells)) (now (args .entries)) (now (args .entries)) (now (args .out)) (check2 .given .0 .0) (check2 .given .0 .1 .0)
+          (check2 .given .0 .1 .1 .0) (sym (check-sheet .ensures) ∙ check2 .given .1) (if1 .taken),
+    )
 
 read-file-requires : tie.Need-read-file-requires
 read-file-requires c κs = search needs
@@ -55,10 +59,14 @@ returns-2 : tie.Need-returns-2
 returns-2 c =
     let args = c .before .before .before .before .before .before .before .before .before .args in
     let check = c .before .check in
-    let check-sheet = c .before .before .before .check-sheet in
-    unfit-sheet (now (args .start)) (now (args .text)) (length (now (args .cells)) / 7) (length (now (args .entries)) / 28) (now (args .cells))
-    (now (args .cells)) (now (args .entries)) (now (args .entries)) (now (args .out)) (check .given .0 .0) (check .given .0 .1 .0)
-    (sym (check-sheet .ensures) ∙ check .given .1)
+    let check-sheet = c .before .before .before .check-sheet in (
+      unfit-sheet (now (args .start)) (now (args .text)) (length (now (args .cells)) / 7) (length (now (args .entries)) / 28) (now (args .cells))
+          (now (args .cells)) (now (args .entries)) (now (args .entries)) (now (args .out)) (check .given .0 .0) (check .given .0 .1 .0)
+          (sym (check-sheet .ensures) ∙ check .given .1),
+      unfit-sheet-none (now (args .start)) (now (args .text)) (length (now (args .cells)) / 7) (length (now (args .entries)) / 28) (now (args .cells))
+          (now (args .cells)) (now (args .entries)) (now (args .entries)) (now (args .out)) (check .given .0 .0) (check .given .0 .1 .0)
+          (sym (check-sheet .ensures) ∙ check .given .1),
+    )
 
 same-length : tie.Need-same-length
 same-length c = search needs
@@ -73,11 +81,16 @@ returns-3 c =
     let check2 = c .before .before .before .before .before .before .before .before .before .before .before .before .check2 in
     let check-sheet = c .before .before .before .before .before .before .before .before .before .before .before .before .before .before .check-sheet in
     let if1 = c .before .before .before .before .before .before .before .before .before .before .if1 in
-    let answer = c .before .answer in
-    unread-text (now (args .start)) (now (args .text)) (length (now (args .cells)) / 7) (length (now (args .entries)) / 28) (now (args .cells))
-    (read-file .last .1 .0) (now (args .entries)) (read-file .last .1 .1 .0) (now (args .out)) (check2 .given .0 .0) (check2 .given .0 .1 .0)
-    (check2 .given .0 .1 .1 .0) (sym (check-sheet .ensures) ∙ check2 .given .1) (if1 .left) (read-file .result) (read-file .ensures)
-    (answer .given .0 .0) (answer .given .0 .1 .0) (answer .given .1)
+    let answer = c .before .answer in (
+      unread-text (now (args .start)) (now (args .text)) (length (now (args .cells)) / 7) (length (now (args .entries)) / 28) (now (args .cells))
+          (read-file .last .1 .0) (now (args .entries)) (read-file .last .1 .1 .0) (now (args .out)) (check2 .given .0 .0) (check2 .given .0 .1 .0)
+          (check2 .given .0 .1 .1 .0) (sym (check-sheet .ensures) ∙ check2 .given .1) (if1 .left) (read-file .result) (read-file .ensures)
+          (answer .given .0 .0) (answer .given .0 .1 .0) (answer .given .1),
+      unread-none (now (args .start)) (now (args .text)) (length (now (args .cells)) / 7) (length (now (args .entries)) / 28) (now (args .cells))
+          (read-file .last .1 .0) (now (args .entries)) (read-file .last .1 .1 .0) (now (args .out)) (check2 .given .0 .0) (check2 .given .0 .1 .0)
+          (check2 .given .0 .1 .1 .0) (sym (check-sheet .ensures) ∙ check2 .given .1) (if1 .left) (read-file .result) (read-file .ensures)
+          (answer .given .0 .0) (answer .given .0 .1 .0) (answer .given .1),
+    )
 
 same-length-3 : tie.Need-same-length-3
 same-length-3 c = search needs
@@ -97,15 +110,20 @@ returns-4 c =
     let if1 = c .before .before .before .before .before .before .before .before .before .before .before .before .before .before .before .before .if1 in
     let shared-slice-known = c .before .before .before .before .before .before .before .before .before .before .before .before .before .before .before .before .before .before .before .before .before .before .before .before .before .shared-slice-known in
     let answer2 = c .before .before .before .before .before .before .before .answer2 in
-    let apply-text = c .before .before .apply-text in
-    read-text (now (args .start)) (now (args .text)) (length (now (args .cells)) / 7) (length (now (args .entries)) / 28) (now (args .cells))
-    (read-file .last .1 .0) (now (args .entries)) (read-file .last .1 .1 .0) (now (args .out)) (check2 .given .0 .0) (check2 .given .0 .1 .0)
-    (check2 .given .0 .1 .1 .0) (sym (check-sheet .ensures) ∙ check2 .given .1) (if1 .left) (read-file .result) (read-file .ensures)
-    (λ i. shared-slice-known .given i .fits) (answer2 .given .0 .0) (answer2 .given .0 .1 .0) (answer2 .given .1) (apply-text .result)
-    (apply-text .last .1 .1 .1 .1 .1 .1 .0) (apply-text .ensures)
+    let apply-text = c .before .before .apply-text in (
+      read-text (now (args .start)) (now (args .text)) (length (now (args .cells)) / 7) (length (now (args .entries)) / 28) (now (args .cells))
+          (read-file .last .1 .0) (now (args .entries)) (read-file .last .1 .1 .0) (now (args .out)) (check2 .given .0 .0) (check2 .given .0 .1 .0)
+          (check2 .given .0 .1 .1 .0) (sym (check-sheet .ensures) ∙ check2 .given .1) (if1 .left) (read-file .result) (read-file .ensures)
+          (λ i. shared-slice-known .given i .fits) (answer2 .given .0 .0) (answer2 .given .0 .1 .0) (answer2 .given .1) (apply-text .result)
+          (apply-text .last .1 .1 .1 .1 .1 .1 .0) (apply-text .ensures),
+      read-count (now (args .start)) (now (args .text)) (length (now (args .cells)) / 7) (length (now (args .entries)) / 28) (now (args .cells))
+          (read-file .last .1 .0) (now (args .entries)) (read-file .last .1 .1 .0) (now (args .out)) (check2 .given .0 .0) (check2 .given .0 .1 .0)
+          (check2 .given .0 .1 .1 .0) (sym (check-sheet .ensures) ∙ check2 .given .1) (if1 .left) (read-file .result) (read-file .ensures)
+          (answer2 .given .0 .0) (answer2 .given .0 .1 .0) (answer2 .given .1),
+    )
 
-pub annotate-spec : {M : Type 1} → statement M
-annotate-spec =
+pub annotate-counted-spec : {M : Type 1} → statement M
+annotate-counted-spec =
     tie.close
     (tie.spec
     check-sheet-requires
