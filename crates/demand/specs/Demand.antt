@@ -6,6 +6,7 @@ use mathlib.Core.Path.{_≡_, refl, sym, ap, _∙_, subst}
 use mathlib.Core.Bool.{Bool, true, false, true≢false}
 use mathlib.Core.List.{List, [], _∷_, _++_, map}
 use mathlib.Core.Option.{Option, none, some}
+use mathlib.Core.Logic.{_↔_}
 use native.Mathlib.Omega.{arith}
 use native.Mathlib.Nat.{le-refl}
 use lib.Dec.{eqb, ltb}
@@ -56,7 +57,7 @@ use Rattle.annotate.specs.Meaning as annotating
 use Rattle.patching.specs.Where.{Where, at}
 use Rattle.arcrun.specs.CellRuns.{cells-length}
 use Rattle.patch.specs.declared.Patched.the-variants as patched
-use Rattle.patch.specs.Meaning.{said, firstCell, course, answerOf, saysOf, sheetOf, currentOf}
+use Rattle.patch.specs.Meaning.{said, firstCell, Course, course, answerOf, saysOf, sheetOf, currentOf}
 use Rattle.patch.specs.Demand.{Annotates, patch-is-annotating, accepted}
 
 -- 1. Where a word stands
@@ -392,3 +393,115 @@ module _ (s t n : List ℕ) (k p q p' q' : ℕ) (st st2 st' : At) (S : Spliced s
       ∙ ap (λ (l : List (Cell Where)). map (renamedCell g) fronts ++ (map (renamedCell g) l ++ map (renamedCell g) behinds)) y
       ∙ sym (ap (λ (c : Cut (Cell Where)). map (renamedCell g) (c .before ++ (firstCell (said true t st2) ∷ c .after))) x
       ∙ map-append (renamedCell g) fronts (firstCell (said true t st2) ∷ behinds))
+
+-- 5. Demand 3
+
+-- where a word stands in the new file, from the texts alone
+abbrev pub newPlace : (text : List ℕ) (number : ℕ) (slash : Bool) (incoming : List ℕ) → Where → ℕ
+newPlace text number slash incoming =
+    moved (cellFrom number (takenOf file text)) (cellTo number (takenOf file text)) (cellFrom 1 (takenOf (oneCell slash) incoming))
+    (cellTo 1 (takenOf (oneCell slash) incoming))
+
+-- 'Patching is annotating with the new file.' c is the patch's course, c' that of annotating the starting sheet with the new file's own text; g says
+-- where in it a word stands
+pub record Demand3 (start current : List ℕ) (g : Where → ℕ) (s : Sheet) (st' : At) (c : Course) (c' : annotating.Course) : Type 0 where
+  -- both courses end with one answer: the patch's, told by the words of the file and of the incoming text, is annotating's, told by the new file's
+  pub answer : Answer Slot Where
+  pub says : answerOf c ≡ saysOf answer
+  pub annotates : c' ≡ annotating.judged s st' (renamedAnswer g answer)
+  -- the patch is accepted exactly if annotating with the new file is
+  pub done : (answerOf c ≡ patched.Done) ↔ (annotating.answerOf c' ≡ annotated.Done)
+  -- and then the current sheet becomes what annotating with the new file leaves in the output sheet, byte by byte
+  pub leaves : (out : List ℕ) → answerOf c ≡ patched.Done → currentOf start current c ≡ annotating.outOf start out c'
+  -- the patch is refused exactly if annotating with the new file is: with the same number, at the word that stands there in the new file
+  pub refuses : (n : ℕ) (w : Where) → answerOf c ≡ patched.Refused n (w .place) (w .incoming) → annotating.answerOf c' ≡ annotated.Refused n (g w)
+  pub refused-by : (n x : ℕ) → annotating.answerOf c' ≡ annotated.Refused n x
+      → (w : Where) × (g w ≡ x) × (answerOf c ≡ patched.Refused n (w .place) (w .incoming))
+  -- 'A refused patch keeps the current sheet.'
+  pub kept : (n x : ℕ) (b : Bool) → answerOf c ≡ patched.Refused n x b → currentOf start current c ≡ current
+
+done-refused : (n x : ℕ) (b : Bool) → patched.Done ≡ patched.Refused n x b → ⊥
+done-refused n x b e = let z : _≡_ {A = ℕ} 0 1 = cc in omega arith
+
+annotated-refused : (n x : ℕ) → annotated.Done ≡ annotated.Refused n x → ⊥
+annotated-refused n x e = let z : _≡_ {A = ℕ} 0 1 = cc in omega arith
+
+same-annotated : (n n' x x' : ℕ) → annotated.Refused n x ≡ annotated.Refused n' x' → (n ≡ n') × (x ≡ x')
+same-annotated n n' x x' e = (cc, cc)
+
+same-refusal : (n n' : ℕ) (w w' : Where) → patched.Refused n (w .place) (w .incoming) ≡ patched.Refused n' (w' .place) (w' .incoming) → (n ≡ n') × (w ≡ w')
+same-refusal n n' w w' e =
+    let i : w .place ≡ w' .place = cc in
+    let j : w .incoming ≡ w' .incoming = cc in
+    (cc, ap (at (w .incoming)) i ∙ ap (λ (b : Bool). at b (w' .place)) j)
+
+-- the course of annotating with a text that is read
+new-course : (start text : List ℕ) (cr ir n m f : ℕ) (st : At) → checkOf start ≡ Good n m f → readFile cr ir text ≡ fine st
+    → annotating.course start text cr ir (length start)
+    ≡ annotating.judged (sheetAt start n m f) st (history.annotate (recordsAt start n m f) (valuesOf (sheetAt start n m f)) (annotating.said text st))
+unfolding annotating.course decode
+new-course start text cr ir n m f st good read = rw (good, eq-eqb (length start) (length start) refl, read)
+
+-- from the one answer
+one-answer : (start current : List ℕ) (n m f : ℕ) (g : Where → ℕ) (st' : At) (c : Course) (c' : annotating.Course) (a : Answer Slot Where)
+    → answerOf c ≡ saysOf a → currentOf start current c ≡ sheetOf start current n m f a
+    → c' ≡ annotating.judged (sheetAt start n m f) st' (renamedAnswer g a) → Demand3 start current g (sheetAt start n m f) st' c c'
+unfolding renamedAnswer annotating.answerOf annotating.outOf
+one-answer start current n m f g st' c c' (sheet v) x y z =
+    let d : annotating.answerOf c' ≡ annotated.Done = ap annotating.answerOf z in
+    record {
+      answer = sheet v;
+      says = x;
+      annotates = z;
+      done = (λ e. d, λ e. x);
+      leaves = λ out e. y ∙ sym (ap (annotating.outOf start out) z);
+      refuses = λ k w e. absurd (done-refused k (w .place) (w .incoming) (sym x ∙ e));
+      refused-by = λ k w e. absurd (annotated-refused k w (sym d ∙ e));
+      kept = λ k w b e. absurd (done-refused k w b (sym x ∙ e));
+    }
+one-answer start current n m f g st' c c' (refused k w) x y z =
+    let d : annotating.answerOf c' ≡ annotated.Refused k (g w) = ap annotating.answerOf z in
+    record {
+      answer = refused k w;
+      says = x;
+      annotates = z;
+      done = (λ e. absurd (done-refused k (w .place) (w .incoming) (sym e ∙ x)), λ e. absurd (annotated-refused k (g w) (sym e ∙ d)));
+      leaves = λ out e. absurd (done-refused k (w .place) (w .incoming) (sym e ∙ x));
+      refuses = λ k' w' e.
+          let (i, j) = same-refusal k k' w w' (sym x ∙ e) in
+          d ∙ ap (λ (u : ℕ). annotated.Refused u (g w)) i ∙ ap (λ (u : Where). annotated.Refused k' (g u)) j;
+      refused-by = λ k' q e.
+          let (i, j) = same-annotated k k' (g w) q (sym d ∙ e) in
+          (w, j, x ∙ ap (λ (u : ℕ). patched.Refused u (w .place) (w .incoming)) i);
+      kept = λ k' q b e. y;
+    }
+
+-- DEMAND 3. Annotating with the file was accepted, and the current sheet is what it left; number `number` is one of the file's cells; the incoming text
+-- was read as one cell; the new file is within the limit, and there is room for its cells and entries. Then the new file is read, and patching is
+-- annotating with it.
+pub demand-3 : (start text : List ℕ) (number : ℕ) (incoming current : List ℕ) (cr ir cr2 ir2 cr' ir' : ℕ) → Bytes start → Bytes current
+    → (long : ℕ) (out : List ℕ) (s : Sheet) (st : At) (v : Values)
+    → annotating.course start text cr ir long ≡ annotating.judged s st (sheet v)
+    → current ≡ annotating.outOf start out (annotating.course start text cr ir long) → 1 ≤ number → number ≤ length (st .book .log .cells) → (st2 : At)
+    → readCell (st .book .slash) (st .book .unit) cr2 ir2 incoming ≡ fine st2
+    → length (newFileOf text number (st .book .slash) incoming) ≤ textLimit → length (st .book .log .cells) ≤ cr'
+    → length (st .book .log .items) - entriesAt (number - 1) st + length (st2 .book .log .items) ≤ ir'
+    → (st' : At) × (readFile cr' ir' (newFileOf text number (st .book .slash) incoming) ≡ fine st')
+    × Demand3 start current (newPlace text number (st .book .slash) incoming) s st' (course start text number incoming current cr ir cr2 ir2)
+    (annotating.course start (newFileOf text number (st .book .slash) incoming) cr' ir' (length start))
+demand-3 start text number comes current cr ir cr2 ir2 cr' ir' bs bc long out s st v e now low high st2 read2 size rc ri =
+    let (n0, m0, f0, a0) = accepted start text cr ir long s st v e in
+    let (n, m, f, good, is, A) = patch-is-annotating start text number comes current cr ir cr2 ir2 bs bc long out s st v e now low high st2 read2 in
+    let (st', r, S) = splice cr ir text st number cr2 ir2 comes st2 cr' ir' (a0 .read) low high read2 size rc ri in
+    let (l1, l2) = cell-stands cr ir text st number cr2 ir2 comes st2 (a0 .read) low high read2 in
+    let g = newPlace text number (st .book .slash) comes in
+    let N = newFileOf text number (st .book .slash) comes in
+    let cells = new-cells text comes N number _ _ _ _ st st2 st' S l1 l2 (cell-slash (st .book .slash) (st .book .unit) cr2 ir2 comes st2 read2 .0)
+    (cell-sound (st .book .slash) (st .book .unit) cr2 ir2 comes st2 read2 .entries) (A .split) (A .there) in
+    let answer : Answer Slot Where =
+    history.annotate (recordsAt start n m f) (valuesOf (sheetAt start n m f)) (swapped (A .split) (firstCell (said true comes st2))) in
+    let told : history.annotate (recordsAt start n m f) (valuesOf (sheetAt start n m f)) (annotating.said N st') ≡ renamedAnswer g answer =
+    ap (history.annotate (recordsAt start n m f) (valuesOf (sheetAt start n m f))) cells ∙ A .places g in
+    let ran = new-course start N cr' ir' n m f st' good r ∙ ap (annotating.judged (sheetAt start n m f) st') told in
+    (st', r, subst (λ (x : Sheet). Demand3 start current g x st' (course start text number comes current cr ir cr2 ir2) (annotating.course start N cr' ir' (length start)))
+    (sym is) (one-answer start current n m f g st' _ _ answer (A .says) (A .leaves) ran))
