@@ -5,17 +5,16 @@ use Prim.Native.Nat.{ℕ, zero, suc, _+_, _-_, _<_, _≤_}
 use mathlib.Core.Path.{_≡_, refl, sym, ap, _∙_, subst}
 use mathlib.Core.Bool.{Bool, true, false, true≢false}
 use mathlib.Core.List.{List, [], _∷_, _++_, map}
-use mathlib.Core.Option.{Option, none, some}
+use mathlib.Core.Option.{Option, some}
 use mathlib.Core.Logic.{_↔_}
 use native.Mathlib.Omega.{arith}
 use native.Mathlib.Nat.{le-refl}
 use lib.Dec.{eqb, ltb}
-use lib.ListN.{length, take, drop, length-append, length-drop}
+use lib.ListN.{length, take, drop, length-drop}
 use lib.Seq.{drop-drop, take-append-le, drop-append-le, drop-at}
-use borrow.Author.Tests.{lt-ltb, le-ltb, ne-eqb, eq-eqb, eqb-true, eqb-false}
-use Rattle.classes.specs.Choice.{pick, and}
+use borrow.Author.Tests.{lt-ltb, le-ltb, ne-eqb, eq-eqb}
+use Rattle.classes.specs.Choice.{pick}
 use Rattle.tokens.specs.Stream.{stream}
-use Rattle.names.specs.Name.{canon, partOf}
 use Rattle.grammar.specs.declared.Cell as read
 use Rattle.grammar.specs.Machine.{fine}
 use Rattle.grammar.specs.Ll.{non, Row, feeds}
@@ -24,9 +23,9 @@ use Rattle.grammar.specs.Meaning.{Item, Log, Book}
 use Rattle.grammar.specs.Reading.{At}
 use Rattle.grammar.specs.Outcome.{Stack, textLimit, readFile, readCell}
 use Rattle.laws.specs.Walk.{some-inj}
-use Rattle.laws.specs.Taken.{asFile, asCell, starting, Taken, toks, cellWords}
-use Rattle.laws.specs.Behind.{Fed, fed, fed-uncons}
-use Rattle.laws.specs.Exactly.{Follows, read-exactly, cell-exactly, read-says, cell-says}
+use Rattle.laws.specs.Taken.{asFile, starting, Taken, toks, cellWords}
+use Rattle.laws.specs.Behind.{Fed, fed}
+use Rattle.laws.specs.Exactly.{read-exactly, cell-exactly, read-says}
 use Rattle.sound.specs.Sound.{Each, total, cell-sound}
 use Rattle.sound.specs.One.{cell-slash}
 use Rattle.splice.specs.Moved.{moveAt, move-none, move-some, moveCell, moveItem}
@@ -37,8 +36,8 @@ use Rattle.splice.specs.Near.{SameCell, SameItem}
 use Rattle.splice.specs.Names.{StandsIn}
 use Rattle.splice.specs.Shape.{isHeader}
 use Rattle.splice.specs.Span.{cellFrom, cellTo, takenOf, taken-is, newFileOf, CellAt, cell-at, Tail, tail-of}
-use Rattle.splice.specs.Carried.{Incoming, incoming, lit-taken}
-use Rattle.splice.specs.Parts.{Old, old, old-keeps, old-stands, entriesAt, behind-token, from1, to1}
+use Rattle.splice.specs.Carried.{incoming, lit-taken}
+use Rattle.splice.specs.Parts.{old, old-keeps, old-stands, entriesAt, behind-token, from1, to1}
 use Rattle.splice.specs.Splice.{Spliced, splice}
 use Rattle.wire.specs.Wire.{Bytes}
 use Rattle.sheetform.specs.Form.{checkOf}
@@ -58,7 +57,7 @@ use Rattle.patching.specs.Where.{Where, at}
 use Rattle.arcrun.specs.CellRuns.{cells-length}
 use Rattle.patch.specs.declared.Patched.the-variants as patched
 use Rattle.patch.specs.Meaning.{said, firstCell, Course, course, answerOf, saysOf, sheetOf, currentOf}
-use Rattle.patch.specs.Demand.{Annotates, patch-is-annotating, accepted}
+use Rattle.patch.specs.Demand.{patch-is-annotating, accepted}
 
 -- 1. Where a word stands
 
@@ -187,9 +186,9 @@ cut-same p q e = cc
 
 -- 3. Where the cells stand: the file's behind a bracket, and it does not end before it starts
 
-no-file : (o : Taken) (l m : Stack) (k : ℕ) (d : Bool) → Fed file [] l → Takes l o (non (header k d) ∷ []) → ⊥
+no-file : (o : Taken) (l : Stack) (k : ℕ) (d : Bool) → Fed file [] l → Takes l o (non (header k d) ∷ []) → ⊥
 unfolding feeds file
-no-file o l m k d f t =
+no-file o l k d f t =
     let e : file ≡ l = ap (λ (r : Row Term N). r .left) (some-inj f) in
     let g : Takes file o (non (header k d) ∷ []) = subst (λ (x : Stack). Takes x o (non (header k d) ∷ [])) (sym e) t in
     true≢false (ap isHeader (lit-taken opens _ (non (header k d) ∷ []) o g .1))
@@ -199,7 +198,7 @@ module _ (s : List ℕ) (xs : List Taken) (n : ℕ) (b : Book) (C : CellAt xs n 
   behind-first = by (C .hs) (e ∙ ap toks (C .split)) (C .front)
     where
       by : (hs : List Taken) → stream s 0 .toks ≡ toks (hs ++ (C .o ∷ C .w ∷ (C .cs ++ C .zs))) → Fed file hs (C .l) → 1 ≤ C .o .tok .start
-      by [] h f = absurd (no-file (C .o) (C .l) (C .l) (C .k) (C .d) f (C .opener))
+      by [] h f = absurd (no-file (C .o) (C .l) (C .k) (C .d) f (C .opener))
       by (x ∷ hs) h f =
           each-right (Stands 0) hs (C .o ∷ C .w ∷ (C .cs ++ C .zs)) (behind-token s [] x (hs ++ (C .o ∷ C .w ∷ (C .cs ++ C .zs))) 0 h (omega arith) .1) .0 .1
 
@@ -502,6 +501,9 @@ demand-3 start text number comes current cr ir cr2 ir2 cr' ir' bs bc long out s 
     history.annotate (recordsAt start n m f) (valuesOf (sheetAt start n m f)) (swapped (A .split) (firstCell (said true comes st2))) in
     let told : history.annotate (recordsAt start n m f) (valuesOf (sheetAt start n m f)) (annotating.said N st') ≡ renamedAnswer g answer =
     ap (history.annotate (recordsAt start n m f) (valuesOf (sheetAt start n m f))) cells ∙ A .places g in
-    let ran = new-course start N cr' ir' n m f st' good r ∙ ap (annotating.judged (sheetAt start n m f) st') told in
-    (st', r, subst (λ (x : Sheet). Demand3 start current g x st' (course start text number comes current cr ir cr2 ir2) (annotating.course start N cr' ir' (length start)))
-    (sym is) (one-answer start current n m f g st' _ _ answer (A .says) (A .leaves) ran))
+    let ran = new-course start N cr' ir' n m f st' good r ∙ ap (annotating.judged (sheetAt start n m f) st') told in (
+      st',
+      r,
+      subst (λ (x : Sheet). Demand3 start current g x st' (course start text number comes current cr ir cr2 ir2) (annotating.course start N cr' ir' (length start)))
+          (sym is) (one-answer start current n m f g st' _ _ answer (A .says) (A .leaves) ran),
+    )
