@@ -442,7 +442,7 @@ fn run_entries<'a>(
 }
 
 // Whether a cell of a text can touch the arc: its path is a front part of one of the arc's ends.
-fn may_touch<'a>(
+pub fn may_touch<'a>(
     start: &[u8],
     file: &'a [u8],
     incoming: &'a [u8],

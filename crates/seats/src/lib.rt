@@ -1,0 +1,330 @@
+// The arcs with a touched slot, seated in tables of their own, run through the cells of a file together: each cell is looked at once for all of
+// them, and one that can touch none is passed by. Seat number i has the place of an arc, 18 flags and 144 bytes of values.
+ghost use mathlib.Core.Path.{_≡_};
+ghost use mathlib.Core.Bool.{true, false};
+ghost use Prim.Native.Nat.{_+_, _*_, _≤_, _<_};
+ghost use lib.ListN.{length, getD, take, drop};
+ghost use lib.Seq.{paste};
+ghost use lib.Dec.{eqb};
+ghost use Rattle.classes.specs.Choice.{pick};
+ghost use Rattle.names.specs.Name.{canon, partOf};
+ghost use Rattle.sheetlaws.specs.Sheet.{arNext};
+ghost use Rattle.sheet.specs.Find.{InstanceSearch};
+ghost use Rattle.annotate.specs.Cells.{entriesBefore};
+ghost use Rattle.patching.specs.Meant.{mayTouch};
+ghost use Rattle.seats.specs.Seats.{agree, Ends, There, Common, SeatRan, SeatsRan, CellsSeatsRan};
+use apply::Plan;
+use arcrun::Least;
+use grammar::Cell;
+
+const EVERY: u8 = 2;
+
+const SAME: u8 = 1;
+
+// The bytes of a seat's flags and of its values.
+const FLAGS: usize = 18;
+
+const VALUES: usize = 144;
+
+// Copies a part of a table.
+pub fn load(table: &[u8], at: usize, part: &mut [u8])
+    requires { ⌜ at + length (now part) ≤ length (now table) ⌝ }
+    ensures { λ _. ⌜ now (part .exit) ≡ take (length (now (part .entry))) (drop at (now (table .entry))) ⌝ }
+{
+    let mut k = 0;
+    while k < part.len() {
+        part[k] = table[at + k];
+        k += 1;
+    }
+}
+
+// Copies it back.
+pub fn store(table: &mut [u8], at: usize, part: &[u8])
+    requires { ⌜ at + length (now part) ≤ length (now table) ⌝ }
+    ensures { λ _. ⌜ now (table .exit) ≡ paste (now (table .entry)) at (now (part .entry)) (length (now (part .entry))) ⌝ }
+{
+    let mut k = 0;
+    while k < part.len() {
+        table[at + k] = part[k];
+        k += 1;
+    }
+}
+
+// At most so many of a text's first bytes.
+fn front_part(text: &[u8], n: usize) -> &[u8]
+    ensures { λ r. ⌜ now r ≡ take n (now (text .entry)) ⌝ }
+{
+    if text.len() <= n {
+        return text;
+    }
+    &text[0..n]
+}
+
+// How many of the first bytes of x agree with y, as far as y goes.
+fn agreeing(x: &[u8], y: &[u8]) -> usize
+    ensures { λ r. ⌜ (r ≤ length (now (x .entry))) × (agree (now (y .entry)) (take r (now (x .entry))) ≡ true) ⌝ }
+{
+    let mut i = 0;
+    while i < x.len() {
+        if y.len() <= i {
+            return x.len();
+        }
+        if x[i] != y[i] {
+            return i;
+        }
+        i += 1;
+    }
+    i
+}
+
+// How many of the first bytes of a name agree with both ends of an arc, as far as these go.
+fn agreeing_ends(start: &[u8], arc: usize, name: &[u8]) -> usize
+    requires { ⌜ arNext (now start) arc ≤ length (now start) ⌝ }
+    ensures { λ r. ⌜ (r ≤ length (now (name .entry))) × Ends (now (start .entry)) arc (take r (now (name .entry))) ⌝ }
+{
+    let n = agreeing(name, sheet::first_end(start, arc));
+    agreeing(front_part(name, n), sheet::second_end(start, arc))
+}
+
+// A name with which the ends of all seated arcs agree: the longest front part of the first one's first end.
+pub fn common_front<'a>(start: &'a [u8], arcs: &[usize; 64], count: usize) -> &'a [u8]
+    requires { ⌜ (There (now start) (now arcs) count) × (count ≤ 64) ⌝ }
+    ensures { λ r. ⌜ Common (now (start .entry)) (now (arcs .entry)) count (now r) ⌝ }
+{
+    if count == 0 {
+        return &start[0..0];
+    }
+    let name = sheet::first_end(start, arcs[0]);
+    let mut n = name.len();
+    let mut i = 0;
+    while i < count {
+        n = agreeing_ends(start, arcs[i], front_part(name, n));
+        i += 1;
+    }
+    front_part(name, n)
+}
+
+// Whether a canonical name and a written one agree as far as both go.
+fn agrees(name: &[u8], written: &[u8], slash: bool) -> bool
+    ensures { λ r. ⌜ (agree (now (name .entry)) (canon slash (now (written .entry))) ≡ true → r ≡ true) ⌝ }
+{
+    names::cmp_front_written(name, front_part(written, name.len()), slash) == SAME
+}
+
+// Whether a cell has a path that can touch none of the seated arcs.
+fn is_far<'a>(
+    file: &'a [u8],
+    incoming: &'a [u8],
+    side: bool,
+    slash: bool,
+    cell: Cell,
+    common: &[u8],
+) -> bool
+    ensures { λ r. ⌜ (r ≡ true → (eqb (cell .sort) 2 ≡ false)
+        × (agree (now (common .entry)) (canon slash (partOf (pick side (now (incoming .entry)) (now (file .entry))) (cell .pathfrom) (cell .pathto))) ≡ false)) ⌝ }
+{
+    if cell.sort == EVERY {
+        return false;
+    }
+    let path = names::name_of(file, incoming, side, cell.pathfrom, cell.pathto);
+    !agrees(common, path, slash)
+}
+
+// Whether a cell has a path that cannot touch the arc at a place.
+fn passes_by<'a>(
+    start: &[u8],
+    file: &'a [u8],
+    incoming: &'a [u8],
+    side: bool,
+    slash: bool,
+    cell: Cell,
+    arc: usize,
+) -> bool
+    requires { ⌜ arNext (now start) arc ≤ length (now start) ⌝ }
+    ensures { λ r. ⌜ (r ≡ true → (eqb (cell .sort) 2 ≡ false)
+        × (mayTouch (now (start .entry)) (pick side (now (incoming .entry)) (now (file .entry))) slash (cell .pathfrom) (cell .pathto) arc ≡ false)) ⌝ }
+{
+    if cell.sort == EVERY {
+        return false;
+    }
+    !arcrun::may_touch(start, file, incoming, side, slash, cell.pathfrom, cell.pathto, arc)
+}
+
+// Takes the values of one seat through a cell, whose keyword is an event's number; false where there is a fault.
+fn run_seat<'a>(
+    start: &[u8],
+    file: &'a [u8],
+    incoming: &'a [u8],
+    side: bool,
+    plan: Plan,
+    places: &[u32; 4096],
+    cells: &[u64],
+    row: usize,
+    entries: &[u64],
+    first: usize,
+    arc: usize,
+    flags: &[u8],
+    states: &mut [u8],
+    seat: usize,
+    event: usize,
+) -> bool
+    requires { ⌜ (InstanceSearch (now start) (plan .instances) 12 (now places)) × (arNext (now start) arc ≤ length (now start))
+        × (row + 7 ≤ length (now cells)) × (28 * (first + getD (now cells) (row + 6) 0) ≤ length (now entries)) × (18 * seat + 18 ≤ length (now flags))
+        × (144 * seat + 144 ≤ length (now states)) × (event + 1 + getD (now cells) (row + 6) 0 < 18446744073709551616) ⌝ }
+    ensures { λ r. ⌜ (length (now (states .exit)) ≡ length (now (states .entry)))
+        × (r ≡ true → SeatRan (now (start .entry)) (pick side (now (incoming .entry)) (now (file .entry))) (plan .slash) (plan .instances) (plan .arcs)
+        (plan .first) side (now (cells .entry)) row (now (entries .entry)) first arc (now (flags .entry)) (now (states .entry)) (now (states .exit)) seat event) ⌝ }
+{
+    let mut mask = [0u8; 18];
+    load(flags, FLAGS * seat, &mut mask);
+    let mut state = [0u8; 144];
+    load(states, VALUES * seat, &mut state);
+    let least = arcrun::run_cell(
+        start,
+        file,
+        incoming,
+        side,
+        plan,
+        places,
+        cells,
+        row,
+        entries,
+        first,
+        arc,
+        &mask,
+        &mut state,
+        event,
+    );
+    match least {
+        Least::Fault {
+            event: e,
+            number,
+            place,
+            incoming: i,
+        } => false,
+        Least::Nothing => {
+            store(states, VALUES * seat, &state);
+            true
+        }
+    }
+}
+
+// Takes the values of all seats through a cell.
+pub fn run_seats<'a>(
+    start: &[u8],
+    file: &'a [u8],
+    incoming: &'a [u8],
+    side: bool,
+    plan: Plan,
+    places: &[u32; 4096],
+    cells: &[u64],
+    row: usize,
+    entries: &[u64],
+    first: usize,
+    common: &[u8],
+    arcs: &[usize; 64],
+    count: usize,
+    flags: &[u8],
+    states: &mut [u8],
+    event: usize,
+) -> bool
+    requires { ⌜ (InstanceSearch (now start) (plan .instances) 12 (now places)) × (There (now start) (now arcs) count)
+        × (Common (now start) (now arcs) count (now common)) × (count ≤ 64) × (18 * count ≤ length (now flags)) × (144 * count ≤ length (now states))
+        × (row + 7 ≤ length (now cells)) × (28 * (first + getD (now cells) (row + 6) 0) ≤ length (now entries))
+        × (event + 1 + getD (now cells) (row + 6) 0 < 18446744073709551616) ⌝ }
+    ensures { λ r. ⌜ (length (now (states .exit)) ≡ length (now (states .entry)))
+        × (r ≡ true → SeatsRan (now (start .entry)) (pick side (now (incoming .entry)) (now (file .entry))) (plan .slash) (plan .instances) (plan .arcs)
+        (plan .first) side (now (cells .entry)) row (now (entries .entry)) first event (now (arcs .entry)) (now (flags .entry)) (now (states .entry))
+        count (now (states .exit))) ⌝ }
+{
+    let cell = views::cell_at(cells, row);
+    if is_far(file, incoming, side, plan.slash, cell, common) {
+        return true;
+    }
+    let mut i = 0;
+    while i < count {
+        if !passes_by(start, file, incoming, side, plan.slash, cell, arcs[i]) {
+            if !run_seat(
+                start,
+                file,
+                incoming,
+                side,
+                plan,
+                places,
+                cells,
+                row,
+                entries,
+                first,
+                arcs[i],
+                flags,
+                states,
+                i,
+                event,
+            ) {
+                return false;
+            }
+        }
+        i += 1;
+    }
+    true
+}
+
+// Takes them through the file's cells number `from` up to `to`, from 0 on; `before` entries stand before them, and their events start at `begin`.
+pub fn run_cells<'a>(
+    start: &[u8],
+    file: &'a [u8],
+    incoming: &'a [u8],
+    plan: Plan,
+    places: &[u32; 4096],
+    cells: &[u64],
+    from: usize,
+    to: usize,
+    entries: &[u64],
+    before: usize,
+    common: &[u8],
+    arcs: &[usize; 64],
+    count: usize,
+    flags: &[u8],
+    states: &mut [u8],
+    begin: usize,
+) -> bool
+    requires { ⌜ (InstanceSearch (now start) (plan .instances) 12 (now places)) × (There (now start) (now arcs) count)
+        × (Common (now start) (now arcs) count (now common)) × (count ≤ 64) × (18 * count ≤ length (now flags)) × (144 * count ≤ length (now states))
+        × (7 * to ≤ length (now cells)) × (before ≡ entriesBefore (now cells) from) × (28 * entriesBefore (now cells) to ≤ length (now entries))
+        × (begin + (to + entriesBefore (now cells) to) < 18446744073709551616) ⌝ }
+    ensures { λ r. ⌜ (length (now (states .exit)) ≡ length (now (states .entry)))
+        × (r ≡ true → CellsSeatsRan (now (start .entry)) (now (file .entry)) (plan .slash) (plan .instances) (plan .arcs) (plan .first) (now (cells .entry)) from to
+        (now (entries .entry)) begin (now (arcs .entry)) (now (flags .entry)) (now (states .entry)) count (now (states .exit))) ⌝ }
+{
+    let mut k = from;
+    let mut first = before;
+    let mut event = begin;
+    while k < to {
+        let row = 7 * k;
+        if !run_seats(
+            start,
+            file,
+            incoming,
+            false,
+            plan,
+            places,
+            cells,
+            row,
+            entries,
+            first,
+            common,
+            arcs,
+            count,
+            flags,
+            states,
+            event,
+        ) {
+            return false;
+        }
+        let some = cells[row + 6] as usize;
+        first += some;
+        event += 1 + some;
+        k += 1;
+    }
+    true
+}
