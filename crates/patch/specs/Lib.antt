@@ -7,3 +7,4 @@ pub mod ArcLaws
 pub mod SwapLaws
 pub mod PatchLaws
 pub mod Demand
+pub mod Seated
