@@ -1,3 +1,4 @@
+pub mod Only
 pub mod Touch
 pub mod Run
 pub mod RunLaws

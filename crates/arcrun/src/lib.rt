@@ -5,19 +5,19 @@ ghost use mathlib.Core.List.{[], _∷_};
 ghost use Prim.Native.Nat.{_+_, _*_, _≤_, _<_};
 ghost use lib.ListN.{length, getD};
 ghost use Rattle.classes.specs.Choice.{pick, and};
-ghost use Rattle.names.specs.Order.{sameText};
-ghost use Rattle.sheetform.specs.Form.{typeAt};
 ghost use Rattle.sheetlaws.specs.Sheet.{inEnd, arNext};
-ghost use Rattle.sheet.specs.Find.{InsGood, InstanceSearch};
+ghost use Rattle.sheet.specs.Find.{InstanceSearch};
 ghost use Rattle.annotate.specs.Whom.{InSheet};
 ghost use Rattle.annotate.specs.Cells.{entriesBefore};
 ghost use Rattle.patching.specs.Scratch.{masked, maskedWord, touchedFlags};
 ghost use Rattle.patching.specs.Meant.{meantIn, meantEvery, mayTouch};
+ghost use Rattle.arcrun.specs.Only.{pathBefore, onlyPath, MeantOn};
 ghost use Rattle.arcrun.specs.Touch.{meantFor, nearBy, entriesTouched, cellTouched};
 ghost use Rattle.arcrun.specs.Run.{entryNumber, entryState, EntriesRan, CellRan, CellsRan};
 use annotate::Whom;
 use apply::Plan;
 use grammar::Entry;
+use sheet::Found;
 
 // The least fault: its event in the new file, from 0 on, its number, and its word.
 pub enum Least {
@@ -56,21 +56,20 @@ pub fn text_of<'a>(file: &'a [u8], incoming: &'a [u8], side: bool) -> &'a [u8]
     file
 }
 
-// Whether an entry means the arc at a place, in the instance at another.
-fn meant_in<'a>(
+// Whether an entry means the arc at a place, in the instance with a path.
+fn meant_on<'a>(
     start: &[u8],
     file: &'a [u8],
     incoming: &'a [u8],
     side: bool,
     slash: bool,
     entry: Entry,
-    instance: usize,
+    path: &[u8],
     arc: usize,
 ) -> bool
-    requires { ⌜ (inEnd (now start) instance ≤ length (now start)) × (arNext (now start) arc ≤ length (now start)) ⌝ }
-    ensures { λ r. ⌜ r ≡ meantIn (now (start .entry)) (pick side (now (incoming .entry)) (now (file .entry))) slash entry instance arc ⌝ }
+    requires { ⌜ arNext (now start) arc ≤ length (now start) ⌝ }
+    ensures { λ r. ⌜ MeantOn (now (start .entry)) (pick side (now (incoming .entry)) (now (file .entry))) slash entry (now (path .entry)) arc r ⌝ }
 {
-    let path = sheet::instance_path(start, instance);
     let name = names::name_of(file, incoming, side, entry.from1, entry.to1);
     if entry.kind == DEVICE {
         if sheet::arc_kind(start, arc) != IOPATH {
@@ -97,8 +96,8 @@ fn meant_in<'a>(
         == SAME
 }
 
-// Whether the instance at a place is of a type, and the entry means that arc in it.
-fn meant_of<'a>(
+// Whether it means that arc, in the instance at another place.
+fn meant_in<'a>(
     start: &[u8],
     file: &'a [u8],
     incoming: &'a [u8],
@@ -106,56 +105,67 @@ fn meant_of<'a>(
     slash: bool,
     entry: Entry,
     instance: usize,
-    celltype: &[u8],
     arc: usize,
 ) -> bool
     requires { ⌜ (inEnd (now start) instance ≤ length (now start)) × (arNext (now start) arc ≤ length (now start)) ⌝ }
-    ensures { λ r. ⌜ r ≡ and (sameText (typeAt (now (start .entry)) instance) (now (celltype .entry)))
-        (meantIn (now (start .entry)) (pick side (now (incoming .entry)) (now (file .entry))) slash entry instance arc) ⌝ }
+    ensures { λ r. ⌜ r ≡ meantIn (now (start .entry)) (pick side (now (incoming .entry)) (now (file .entry))) slash entry instance arc ⌝ }
 {
-    let own = sheet::instance_type(start, instance);
-    if names::same_text(own, celltype) {
-        return meant_in(start, file, incoming, side, slash, entry, instance, arc);
-    }
-    false
+    let path = sheet::instance_path(start, instance);
+    meant_on(start, file, incoming, side, slash, entry, path, arc)
 }
 
-// Whether it means that arc in some instance of a type.
+// An end without a name of so many bytes and the `.` before it; nothing is left of one that is not longer.
+fn path_before(end: &[u8], count: usize) -> &[u8]
+    ensures { λ r. ⌜ now r ≡ pathBefore (now (end .entry)) count ⌝ }
+{
+    if count < end.len() {
+        let left = end.len() - count - 1;
+        return &end[0..left];
+    }
+    &end[0..0]
+}
+
+// The only path that an instance can have in which the entry, whose first name has so many bytes, means the arc: a front part of the arc's end.
+fn only_path(start: &[u8], entry: Entry, count: usize, arc: usize) -> &[u8]
+    requires { ⌜ arNext (now start) arc ≤ length (now start) ⌝ }
+    ensures { λ r. ⌜ now r ≡ onlyPath (now (start .entry)) entry count arc ⌝ }
+{
+    if entry.kind != DEVICE {
+        return path_before(sheet::first_end(start, arc), count);
+    }
+    let end = sheet::second_end(start, arc);
+    if entry.to1 == 0 {
+        return path_before(end, end.len() - names::last_component(end));
+    }
+    path_before(end, count)
+}
+
+// Whether it means that arc in some instance of a type: only one can have the path.
 fn meant_every<'a>(
     start: &[u8],
     file: &'a [u8],
     incoming: &'a [u8],
     side: bool,
     plan: Plan,
+    places: &[u32; 4096],
     entry: Entry,
     celltype: &[u8],
     arc: usize,
 ) -> bool
-    requires { ⌜ (InsGood (now start) (plan .instances) 12) × (arNext (now start) arc ≤ length (now start)) ⌝ }
+    requires { ⌜ (InstanceSearch (now start) (plan .instances) 12 (now places)) × (arNext (now start) arc ≤ length (now start)) ⌝ }
     ensures { λ r. ⌜ r ≡ meantEvery (now (start .entry)) (pick side (now (incoming .entry)) (now (file .entry))) (plan .slash) entry (plan .instances)
         (now (celltype .entry)) arc ⌝ }
 {
-    let mut some = false;
-    let mut k = 0;
-    let mut here = INSTANCES;
-    while k < plan.instances {
-        if meant_of(
-            start,
-            file,
-            incoming,
-            side,
-            plan.slash,
-            entry,
-            here,
-            celltype,
-            arc,
-        ) {
-            some = true;
-        }
-        here = sheet::next_instance(start, here);
-        k += 1;
+    let written = names::name_of(file, incoming, side, entry.from1, entry.to1);
+    let path = only_path(start, entry, written.len(), arc);
+    if !meant_on(start, file, incoming, side, plan.slash, entry, path, arc) {
+        return false;
     }
-    some
+    let found = sheet::find_instance(start, plan.instances, INSTANCES, places, path, false);
+    match found {
+        Found::Nothing => false,
+        Found::At(instance) => names::same_text(sheet::instance_type(start, instance), celltype),
+    }
 }
 
 // Whether it means that arc in one of the instances that its cell applies to.
@@ -165,12 +175,13 @@ fn is_meant<'a>(
     incoming: &'a [u8],
     side: bool,
     plan: Plan,
+    places: &[u32; 4096],
     entry: Entry,
     whom: Whom,
     celltype: &[u8],
     arc: usize,
 ) -> bool
-    requires { ⌜ (InsGood (now start) (plan .instances) 12) × (arNext (now start) arc ≤ length (now start)) × InSheet (now start) whom ⌝ }
+    requires { ⌜ (InstanceSearch (now start) (plan .instances) 12 (now places)) × (arNext (now start) arc ≤ length (now start)) × InSheet (now start) whom ⌝ }
     ensures { λ r. ⌜ r ≡ meantFor (now (start .entry)) (pick side (now (incoming .entry)) (now (file .entry))) (plan .slash) (plan .instances) entry whom
         (now (celltype .entry)) arc ⌝ }
 {
@@ -185,7 +196,17 @@ fn is_meant<'a>(
             instance,
             arc,
         ),
-        Whom::Every => meant_every(start, file, incoming, side, plan, entry, celltype, arc),
+        Whom::Every => meant_every(
+            start,
+            file,
+            incoming,
+            side,
+            plan,
+            places,
+            entry,
+            celltype,
+            arc,
+        ),
         Whom::Nobody(number) => false,
     }
 }
@@ -211,6 +232,7 @@ fn touch_entries<'a>(
     incoming: &'a [u8],
     side: bool,
     plan: Plan,
+    places: &[u32; 4096],
     entries: &[u64],
     first: usize,
     count: usize,
@@ -219,7 +241,7 @@ fn touch_entries<'a>(
     arc: usize,
     flags: &mut [u8],
 )
-    requires { ⌜ (InsGood (now start) (plan .instances) 12) × (arNext (now start) arc ≤ length (now start)) × (InSheet (now start) whom)
+    requires { ⌜ (InstanceSearch (now start) (plan .instances) 12 (now places)) × (arNext (now start) arc ≤ length (now start)) × (InSheet (now start) whom)
         × (28 * (first + count) ≤ length (now entries)) × (length (now flags) ≡ 18) ⌝ }
     ensures { λ _. ⌜ now (flags .exit) ≡ entriesTouched (now (start .entry)) (pick side (now (incoming .entry)) (now (file .entry))) (plan .slash)
         (plan .instances) (now (entries .entry)) first whom (now (celltype .entry)) arc (now (flags .entry)) count ⌝ }
@@ -234,6 +256,7 @@ fn touch_entries<'a>(
             incoming,
             side,
             plan,
+            places,
             entry,
             whom,
             celltype,
@@ -271,6 +294,7 @@ pub fn touch_cell<'a>(
     incoming: &'a [u8],
     side: bool,
     plan: Plan,
+    places: &[u32; 4096],
     entries: &[u64],
     first: usize,
     count: usize,
@@ -279,7 +303,7 @@ pub fn touch_cell<'a>(
     arc: usize,
     flags: &mut [u8],
 )
-    requires { ⌜ (InsGood (now start) (plan .instances) 12) × (arNext (now start) arc ≤ length (now start)) × (InSheet (now start) whom)
+    requires { ⌜ (InstanceSearch (now start) (plan .instances) 12 (now places)) × (arNext (now start) arc ≤ length (now start)) × (InSheet (now start) whom)
         × (28 * (first + count) ≤ length (now entries)) × (length (now flags) ≡ 18) ⌝ }
     ensures { λ _. ⌜ now (flags .exit) ≡ cellTouched (now (start .entry)) (pick side (now (incoming .entry)) (now (file .entry))) (plan .slash)
         (plan .instances) (now (entries .entry)) first whom (now (celltype .entry)) arc (now (flags .entry)) count ⌝ }
@@ -291,6 +315,7 @@ pub fn touch_cell<'a>(
             incoming,
             side,
             plan,
+            places,
             entries,
             first,
             count,
@@ -348,6 +373,7 @@ fn run_entry<'a>(
     incoming: &'a [u8],
     side: bool,
     plan: Plan,
+    places: &[u32; 4096],
     entries: &[u64],
     row: usize,
     whom: Whom,
@@ -356,7 +382,7 @@ fn run_entry<'a>(
     flags: &[u8],
     state: &mut [u8],
 ) -> u8
-    requires { ⌜ (InsGood (now start) (plan .instances) 12) × (arNext (now start) arc ≤ length (now start)) × (InSheet (now start) whom)
+    requires { ⌜ (InstanceSearch (now start) (plan .instances) 12 (now places)) × (arNext (now start) arc ≤ length (now start)) × (InSheet (now start) whom)
         × (row + 28 ≤ length (now entries)) × (length (now flags) ≡ 18) × (length (now state) ≡ 144) ⌝ }
     ensures { λ r. ⌜ (r ≡ entryNumber (now (start .entry)) (pick side (now (incoming .entry)) (now (file .entry))) (plan .slash) (plan .instances)
         (now (entries .entry)) row whom (now (celltype .entry)) arc (now (flags .entry)) (now (state .entry)))
@@ -370,6 +396,7 @@ fn run_entry<'a>(
         incoming,
         side,
         plan,
+        places,
         entry,
         whom,
         celltype,
@@ -395,6 +422,7 @@ fn run_entries<'a>(
     incoming: &'a [u8],
     side: bool,
     plan: Plan,
+    places: &[u32; 4096],
     entries: &[u64],
     first: usize,
     count: usize,
@@ -405,7 +433,7 @@ fn run_entries<'a>(
     state: &mut [u8],
     event: usize,
 ) -> Least
-    requires { ⌜ (InsGood (now start) (plan .instances) 12) × (arNext (now start) arc ≤ length (now start)) × (InSheet (now start) whom)
+    requires { ⌜ (InstanceSearch (now start) (plan .instances) 12 (now places)) × (arNext (now start) arc ≤ length (now start)) × (InSheet (now start) whom)
         × (28 * (first + count) ≤ length (now entries)) × (length (now flags) ≡ 18) × (length (now state) ≡ 144) × (event + count < 18446744073709551616) ⌝ }
     ensures { λ r. ⌜ (length (now (state .exit)) ≡ 144) × EntriesRan (now (start .entry)) (pick side (now (incoming .entry)) (now (file .entry)))
         (plan .slash) (plan .instances) (plan .arcs) (plan .first) side (now (entries .entry)) first count whom (now (celltype .entry)) arc
@@ -420,6 +448,7 @@ fn run_entries<'a>(
             incoming,
             side,
             plan,
+            places,
             entries,
             row,
             whom,
@@ -509,6 +538,7 @@ pub fn run_cell<'a>(
         incoming,
         side,
         plan,
+        places,
         entries,
         first,
         cell.entries,

@@ -297,6 +297,7 @@ fn touch_both<'a>(
     incoming: &'a [u8],
     plan: Plan,
     swap: Swap,
+    places: &[u32; 4096],
     entries: &[u64],
     leaver: Whom,
     leavertype: &[u8],
@@ -306,7 +307,7 @@ fn touch_both<'a>(
     arc: usize,
     flags: &mut [u8],
 ) -> bool
-    requires { ⌜ (InsGood (now start) (plan .instances) 12) × (arNext (now start) arc ≤ length (now start)) × (InSheet (now start) leaver)
+    requires { ⌜ (InstanceSearch (now start) (plan .instances) 12 (now places)) × (arNext (now start) arc ≤ length (now start)) × (InSheet (now start) leaver)
         × (InSheet (now start) comer) × (28 * (swap .before + swap .leaving) ≤ length (now entries)) × (28 * swap .coming ≤ length (now entries2))
         × (length (now flags) ≡ 18) ⌝ }
     ensures { λ r. ⌜ (now (flags .exit) ≡ bothTouched (now (start .entry)) (now (file .entry)) (now (incoming .entry)) (plan .slash) (plan .instances)
@@ -319,6 +320,7 @@ fn touch_both<'a>(
         incoming,
         false,
         plan,
+        places,
         entries,
         swap.before,
         swap.leaving,
@@ -333,6 +335,7 @@ fn touch_both<'a>(
         incoming,
         true,
         plan,
+        places,
         entries2,
         0,
         swap.coming,
@@ -513,6 +516,7 @@ fn least_of_arcs<'a>(
             incoming,
             plan,
             swap,
+            places,
             entries,
             leaver,
             leavertype,
@@ -596,6 +600,7 @@ fn write_arcs<'a>(
             incoming,
             plan,
             swap,
+            places,
             entries,
             leaver,
             leavertype,

@@ -1,87 +1,103 @@
--- `arcrun::meant_every` meets its contract. Invariant: whether one of the instances so far is of the type and has the arc meant.
+-- `arcrun::meant_every` meets its contract.
 -- Assumes nothing.
-use Prim.Native.Nat.{_-_, _≤_}
-use mathlib.Core.Path.{_≡_, refl, _∙_}
-use mathlib.Core.Logic.{⊎-elim}
-use native.Mathlib.Omega.{arith}
+use mathlib.Core.Path.{sym, _∙_}
 use denote.Ref.{now}
 use borrow.Author.Needs.{needs}
+use borrow.Author.Tests.{not-true, not-false}
 use Rattle.classes.specs.Choice.{pick}
-use Rattle.sheetlaws.specs.Sheet.{inEnd, nth}
-use Rattle.applying.specs.Bytes.{someOf}
-use Rattle.apply.specs.Turns.{some-with, some-without, instance-whole, instance-more}
-use Rattle.patching.specs.Meant.{meantEvery}
-use Rattle.arcrun.specs.Turns.{meantAt, meant-at}
+use Rattle.names.specs.Name.{nameOf, dotted}
+use Rattle.annotate.specs.Whom.{in-sheet}
+use Rattle.arcrun.specs.Only.{every-not, every-absent, every-found}
 use Rattle.arcrun.proofs.meant_every.Statement.{statement}
 use Rattle.arcrun.proofs.meant_every.Tie as tie
 
-abbrev Inv-loop : tie.InvT-loop
-Inv-loop start file incoming side plan entry celltype arc some₀ k₀ here₀ some k here =
-    (k ≤ plan .instances) × (here ≡ nth (inEnd start) k 12)
-    × (some ≡ someOf (meantAt start (pick side incoming file) (plan .slash) entry celltype arc) k)
+name-of-requires : tie.Need-name-of-requires
+name-of-requires c κs = search needs
 
-abbrev μ-loop : tie.MeasureT-loop
-μ-loop start file incoming side plan entry celltype arc some₀ k₀ here₀ some k here = plan .instances - k
+only-path-requires : tie.Need-only-path-requires
+only-path-requires c κs = search needs
 
-loop-holds : tie.Need-loop-holds Inv-loop μ-loop
-unfolding nth someOf
-loop-holds c = (omega arith, refl, refl)
+meant-on-requires : tie.Need-meant-on-requires
+meant-on-requires c κs = search needs
 
-meant-of-requires : tie.Need-meant-of-requires Inv-loop μ-loop
-meant-of-requires c κs =
-    let args = c .before .before .before .before .before .before .before .args in
-    let loop' = c .before .before .loop in
-    let pre = c .before .before .before .before .before .before .before .pre in
-    (instance-whole (now (args .start)) (loop' .k) 12 (loop' .here) (args .plan .instances) (pre .0) (omega arith) (loop' .inv .1), pre .1)
-
-next-instance-requires : tie.Need-next-instance-requires Inv-loop μ-loop
-next-instance-requires c κs =
-    let args = c .before .before .before .before .before .before .before .before .before .args in
-    let loop' = c .before .before .before .before .loop in
-    let pre = c .before .before .before .before .before .before .before .before .before .pre in
-    instance-whole (now (args .start)) (loop' .k) 12 (loop' .here) (args .plan .instances) (pre .0) (omega arith) (loop' .inv .1)
-
-add-k : tie.Need-add-k Inv-loop μ-loop
-add-k c = search needs
-
-loop-less : tie.Need-loop-less Inv-loop μ-loop
-loop-less c = search needs
-
-loop-again : tie.Need-loop-again Inv-loop μ-loop
-loop-again c =
-    let args = c .before .before .before .before .before .before .before .before .before .before .args in
-    let loop' = c .before .before .before .before .before .loop in
-    let meant-of = c .before .before .meant-of in
-    let next-instance = c .next-instance in
-    let if2 = c .before .if2 in
-    let b = now (args .start) in
-    let l = loop' in
-    let test = meantAt b (pick (args .side) (now (args .incoming)) (now (args .file))) (args .plan .slash) (args .entry) (now (args .celltype)) (args .arc) in
-    let is = meant-at b _ (args .plan .slash) (args .entry) (now (args .celltype)) (args .arc) (l .k) (l .here) _ (l .inv .1) (meant-of .ensures) in
-    let next = instance-more b (l .k) 12 (l .here) _ (l .inv .1) (next-instance .ensures) in
-    ⊎-elim
-    (λ w. (omega arith, next, w .1 ∙ some-with test (l .k) (is ∙ w .0 .taken)))
-    (λ w. (omega arith, next, some-without test (l .k) _ (is ∙ w .0 .left) (w .1 ∙ l .inv .2)))
-    (if2 .came)
-
-returns : tie.Need-returns Inv-loop μ-loop
-unfolding meantEvery
+returns : tie.Need-returns
+unfolding nameOf
 returns c =
-    let loop' = c .before .before .loop in
-    let args = c .before .before .before .before .before .before .before .args in
-    let e : loop' .k ≡ args .plan .instances = omega arith in
-    rw e at (loop' .inv .2)
+    let name-of = c .before .before .before .name-of in
+    let only-path = c .before .before .only-path in
+    let meant-on = c .before .meant-on in
+    let if1 = c .if1 in
+    let args = c .before .before .before .before .before .before .before .before .args in
+    let pre = c .before .before .before .before .before .before .before .before .pre in
+    let text = pick (args .side) (now (args .incoming)) (now (args .file)) in
+    let m = rw (not-true (meant-on .result) (if1 .taken), only-path .ensures, name-of .ensures) at (meant-on .ensures) in
+    sym (every-not (now (args .start)) text (args .plan .slash) (args .entry) (args .plan .instances) (pre .0 .good) (now (args .celltype)) (args .arc) m)
+
+find-instance-requires : tie.Need-find-instance-requires
+find-instance-requires c κs = search needs
+
+enum-told : tie.Need-enum-told
+enum-told c = search needs
+
+enum-known-found : tie.Need-enum-known-found
+enum-known-found c = search needs
+
+instance-type-requires : tie.Need-instance-type-requires
+instance-type-requires c κs =
+    let args = c .before .before .before .before .before .before .before .before .before .before .before .before .args in
+    let pre = c .before .before .before .before .before .before .before .before .before .before .before .before .pre in
+    let found = c .before .found in
+    let find-instance = c .before .before .before .find-instance in
+    in-sheet (now (args .start)) _ (args .plan .instances) (found .given .0 .0) (pre .0 .good) (sym (find-instance .ensures) ∙ found .given .1)
+
+same-text-requires : tie.Need-same-text-requires
+same-text-requires c κs = search needs
+
+returns-2 : tie.Need-returns-2
+unfolding nameOf
+returns-2 c =
+    let name-of = c .before .before .before .before .before .before .name-of in
+    let only-path = c .before .before .before .before .before .only-path in
+    let find-instance = c .before .before .find-instance in
+    let enum-told = c .enum-told in
+    let args = c .before .before .before .before .before .before .before .before .before .before .before .args in
+    let pre = c .before .before .before .before .before .before .before .before .before .before .before .pre in
+    let text = pick (args .side) (now (args .incoming)) (now (args .file)) in
+    let z = sym (rw (dotted, only-path .ensures, name-of .ensures) at (find-instance .ensures)) ∙ enum-told .given .1 in
+    sym (every-absent (now (args .start)) text (args .plan .slash) (args .entry) (args .plan .instances) (pre .0 .good) (now (args .celltype)) (args .arc) z)
+
+returns-3 : tie.Need-returns-3
+unfolding nameOf
+returns-3 c =
+    let name-of = c .before .before .before .before .before .before .before .before .before .name-of in
+    let only-path = c .before .before .before .before .before .before .before .before .only-path in
+    let meant-on = c .before .before .before .before .before .before .before .meant-on in
+    let if1 = c .before .before .before .before .before .before .if1 in
+    let find-instance = c .before .before .before .before .before .find-instance in
+    let found = c .before .before .before .found in
+    let instance-type = c .before .instance-type in
+    let same-text = c .same-text in
+    let args = c .before .before .before .before .before .before .before .before .before .before .before .before .before .before .args in
+    let pre = c .before .before .before .before .before .before .before .before .before .before .before .before .before .before .pre in
+    let text = pick (args .side) (now (args .incoming)) (now (args .file)) in
+    let m = rw (not-false (meant-on .result) (if1 .left), only-path .ensures, name-of .ensures) at (meant-on .ensures) in
+    let z = sym (rw (dotted, only-path .ensures, name-of .ensures) at (find-instance .ensures)) ∙ found .given .1 in
+    (rw (instance-type .ensures) at (same-text .ensures))
+    ∙ sym (every-found (now (args .start)) text (args .plan .slash) (args .entry) (args .plan .instances) (pre .0 .good) (now (args .celltype)) (args .arc)
+    (found .given .0 .0) m z)
 
 pub meant-every-spec : {M : Type 1} → statement M
 meant-every-spec =
     tie.close
     (tie.spec
-    Inv-loop
-    μ-loop
-    loop-holds
-    meant-of-requires
-    next-instance-requires
-    add-k
-    loop-less
-    loop-again
-    returns)
+    name-of-requires
+    only-path-requires
+    meant-on-requires
+    returns
+    find-instance-requires
+    enum-told
+    enum-known-found
+    instance-type-requires
+    same-text-requires
+    returns-2
+    returns-3)

@@ -52,7 +52,7 @@ run-entries-requires c κs =
     let whom-of = c .before .whom-of in
     let cell-at = c .before .before .before .before .before .before .cell-at in
     let s = pre .6 in (
-      pre .0 .good,
+      pre .0,
       pre .1,
       whom-of .ensures .1,
       rw (cell-at .ensures) (pre .3),
@@ -76,7 +76,7 @@ returns-2 c =
       run-entries .ensures .0,
       cell-ran (now (args .start)) (pick (args .side) (now (args .incoming)) (now (args .file))) (args .plan .slash) (args .plan .instances)
           (args .plan .arcs) (args .plan .first) (args .side) (now (args .cells)) (args .row) (now (args .entries)) (args .first) (args .arc)
-          (now (args .flags)) (now (args .state)) (args .event) (run-entries .last .1 .1 .1 .1 .1 .1 .1 .1 .1 .1 .1 .1 .0) (whom-of .result)
+          (now (args .flags)) (now (args .state)) (args .event) (run-entries .last .1 .1 .1 .1 .1 .1 .1 .1 .1 .1 .1 .1 .1 .0) (whom-of .result)
           (run-entries .result) (sym (rw (text-of .ensures, cell-at .ensures) at (whom-of .ensures .0)))
           (rw (name-of .ensures, cell-at .ensures) at (run-entries .ensures .1)),
     )

@@ -12,7 +12,7 @@ use Rattle.arcrun.proofs.run_entries.Statement.{statement}
 use Rattle.arcrun.proofs.run_entries.Tie as tie
 
 abbrev Inv-loop : tie.InvT-loop
-Inv-loop start file incoming side plan entries first count whom celltype arc flags state₀ event k₀ state k =
+Inv-loop start file incoming side plan places entries first count whom celltype arc flags state₀ event k₀ state k =
     (k ≤ count)
     × (RunSoFar start (pick side incoming file) (plan .slash) (plan .instances) (plan .arcs) (plan .first) side entries first count whom celltype
     arc flags
@@ -20,7 +20,7 @@ Inv-loop start file incoming side plan entries first count whom celltype arc fla
     × (length state ≡ length state₀)
 
 abbrev μ-loop : tie.MeasureT-loop
-μ-loop start file incoming side plan entries first count whom celltype arc flags state₀ event k₀ state k = count - k
+μ-loop start file incoming side plan places entries first count whom celltype arc flags state₀ event k₀ state k = count - k
 
 loop-holds : tie.Need-loop-holds Inv-loop μ-loop
 loop-holds c =
@@ -48,23 +48,23 @@ run-entry-requires c κs =
     let loop' = c .before .before .loop in
     (pre .0, pre .1, pre .2, omega (arith, pre .3), pre .4, loop' .inv .2 ∙ pre .5)
 
-add-t22 : tie.Need-add-t22 Inv-loop μ-loop
-add-t22 c =
-    let pre = c .before .before .before .before .before .before .before .before .before .before .before .before .before .before .pre in
-    omega (arith, pre .6)
-
 add-t23 : tie.Need-add-t23 Inv-loop μ-loop
 add-t23 c =
     let pre = c .before .before .before .before .before .before .before .before .before .before .before .before .before .before .pre in
-    omega (arith, pre .3)
+    omega (arith, pre .6)
 
-mul-t24 : tie.Need-mul-t24 Inv-loop μ-loop
-mul-t24 c =
+add-t24 : tie.Need-add-t24 Inv-loop μ-loop
+add-t24 c =
     let pre = c .before .before .before .before .before .before .before .before .before .before .before .before .before .before .pre in
     omega (arith, pre .3)
 
-shared-slice-read-t26 : tie.Need-shared-slice-read-t26 Inv-loop μ-loop
-shared-slice-read-t26 c =
+mul-t25 : tie.Need-mul-t25 Inv-loop μ-loop
+mul-t25 c =
+    let pre = c .before .before .before .before .before .before .before .before .before .before .before .before .before .before .pre in
+    omega (arith, pre .3)
+
+shared-slice-read-t27 : tie.Need-shared-slice-read-t27 Inv-loop μ-loop
+shared-slice-read-t27 c =
     let pre = c .before .before .before .before .before .before .before .before .before .before .before .before .before .before .before .pre in
     omega (arith, pre .3)
 
@@ -86,7 +86,7 @@ returns c =
       run-stop (now (args .start)) (pick (args .side) (now (args .incoming)) (now (args .file))) (args .plan .slash) (args .plan .instances)
           (args .plan .arcs) (args .plan .first) (args .side) (now (args .entries)) (args .first) (args .count) (args .whom)
           (now (args .celltype)) (args .arc) (now (args .flags)) (now (args .state)) (args .event) (loop' .k) (loop' .state)
-          (run-entry .last .1 .1 .1 .1 .1 .1 .1 .1 .1 .1 .1 .0) (run-entry .result) (omega arith) (loop' .inv .1) (run-entry .ensures .0)
+          (run-entry .last .1 .1 .1 .1 .1 .1 .1 .1 .1 .1 .1 .1 .0) (run-entry .result) (omega arith) (loop' .inv .1) (run-entry .ensures .0)
           (if1 .taken),
     )
 
@@ -107,7 +107,7 @@ loop-again c =
       rw add-one (run-more (now (args .start)) (pick (args .side) (now (args .incoming)) (now (args .file))) (args .plan .slash)
           (args .plan .instances) (args .plan .arcs) (args .plan .first) (args .side) (now (args .entries)) (args .first) (args .count)
           (args .whom) (now (args .celltype)) (args .arc) (now (args .flags)) (now (args .state)) (args .event) (loop' .k) (loop' .state)
-          (run-entry .last .1 .1 .1 .1 .1 .1 .1 .1 .1 .1 .1 .0) (omega arith) (loop' .inv .1) (sym (run-entry .ensures .0) ∙ if1 .left)
+          (run-entry .last .1 .1 .1 .1 .1 .1 .1 .1 .1 .1 .1 .1 .0) (omega arith) (loop' .inv .1) (sym (run-entry .ensures .0) ∙ if1 .left)
           (run-entry .ensures .1)),
       state .given ∙ loop' .inv .2,
     )
@@ -139,10 +139,10 @@ run-entries-spec =
     add-row
     mul-row
     run-entry-requires
-    add-t22
     add-t23
-    mul-t24
-    shared-slice-read-t26
+    add-t24
+    mul-t25
+    shared-slice-read-t27
     same-length
     returns
     add-k

@@ -26,21 +26,23 @@ returns c =
 
 add-expand : tie.Need-add-expand
 add-expand c =
+    let good = c .before .before .before .before .before .before .before .before .before .before .good in
     let pre = c .before .before .before .before .before .before .before .before .before .before .pre in
-    omega (arith, pre .3)
+    let l = good .1 .1 .1 .1 .1 .1 .0 in
+    omega (arith, pre .3, l)
 
 add-expand-2 : tie.Need-add-expand-2
 add-expand-2 c =
     let good = c .before .before .before .before .before .before .before .before .before .before .before .good in
     let pre = c .before .before .before .before .before .before .before .before .before .before .before .pre in
-    let l = good .1 .1 .1 .1 .1 .0 in
+    let l = good .1 .1 .1 .1 .1 .1 .0 in
     omega (arith, pre .3, l)
 
 mul-expand : tie.Need-mul-expand
 mul-expand c =
     let good = c .before .before .before .before .before .before .before .before .before .before .before .good in
     let pre = c .before .before .before .before .before .before .before .before .before .before .before .pre in
-    let l = good .1 .1 .1 .1 .1 .0 in
+    let l = good .1 .1 .1 .1 .1 .1 .0 in
     omega (arith, pre .3, l)
 
 shared-slice-read-expand : tie.Need-shared-slice-read-expand

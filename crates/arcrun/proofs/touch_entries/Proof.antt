@@ -15,13 +15,13 @@ use Rattle.arcrun.proofs.touch_entries.Statement.{statement}
 use Rattle.arcrun.proofs.touch_entries.Tie as tie
 
 abbrev Inv-loop : tie.InvT-loop
-Inv-loop start file incoming side plan entries first count whom celltype arc flags₀ k₀ flags k =
+Inv-loop start file incoming side plan places entries first count whom celltype arc flags₀ k₀ flags k =
     (k ≤ count)
     × (flags ≡ entriesTouched start (pick side incoming file) (plan .slash) (plan .instances) entries first whom celltype arc flags₀ k)
     × (length flags ≡ length flags₀)
 
 abbrev μ-loop : tie.MeasureT-loop
-μ-loop start file incoming side plan entries first count whom celltype arc flags₀ k₀ flags k = count - k
+μ-loop start file incoming side plan places entries first count whom celltype arc flags₀ k₀ flags k = count - k
 
 loop-holds : tie.Need-loop-holds Inv-loop μ-loop
 unfolding entriesTouched
@@ -47,21 +47,23 @@ is-meant-requires c κs = search needs
 
 add-expand : tie.Need-add-expand Inv-loop μ-loop
 add-expand c =
+    let good = c .before .before .before .before .before .before .before .before .before .before .before .good in
     let pre = c .before .before .before .before .before .before .before .before .before .before .before .pre in
-    omega (arith, pre .3)
+    let l = good .1 .1 .1 .1 .1 .1 .0 in
+    omega (arith, pre .3, l)
 
 add-expand-2 : tie.Need-add-expand-2 Inv-loop μ-loop
 add-expand-2 c =
     let good = c .before .before .before .before .before .before .before .before .before .before .before .before .good in
     let pre = c .before .before .before .before .before .before .before .before .before .before .before .before .pre in
-    let l = good .1 .1 .1 .1 .1 .0 in
+    let l = good .1 .1 .1 .1 .1 .1 .0 in
     omega (arith, pre .3, l)
 
 mul-expand : tie.Need-mul-expand Inv-loop μ-loop
 mul-expand c =
     let good = c .before .before .before .before .before .before .before .before .before .before .before .before .good in
     let pre = c .before .before .before .before .before .before .before .before .before .before .before .before .pre in
-    let l = good .1 .1 .1 .1 .1 .0 in
+    let l = good .1 .1 .1 .1 .1 .1 .0 in
     omega (arith, pre .3, l)
 
 shared-slice-read-expand : tie.Need-shared-slice-read-expand Inv-loop μ-loop

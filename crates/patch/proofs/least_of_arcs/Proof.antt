@@ -43,7 +43,7 @@ touch-both-requires c κs =
     let pre = c .before .before .before .before .before .before .before .before .before .before .before .before .before .pre in
     let args = c .before .before .before .before .before .before .before .before .before .before .before .before .before .args in
     let loop' = c .before .before .before .loop in (
-      pre .search .good,
+      pre .search,
       arc-whole (now (args .start)) (loop' .j) (args .plan .first) (loop' .arc) (args .plan .arcs) (pre .arcs) (omega arith)
           (loop' .inv .1),
       pre .leaverIn,

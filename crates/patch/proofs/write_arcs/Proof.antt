@@ -47,7 +47,7 @@ touch-both-requires c κs =
     let pre = c .before .before .before .before .before .before .before .before .before .before .before .before .before .before .pre in
     let args = c .before .before .before .before .before .before .before .before .before .before .before .before .before .before .args in
     let loop' = c .before .before .before .loop in (
-      pre .0 .search .good,
+      pre .0 .search,
       arc-whole (now (args .start)) (loop' .j) (args .plan .first) (loop' .arc) (args .plan .arcs) (pre .0 .arcs)
           (omega arith) (loop' .inv .1),
       pre .0 .leaverIn,
