@@ -7,8 +7,8 @@ use mathlib.Core.List.{List, [], _∷_, _++_, append-nil, append-assoc}
 use native.Mathlib.Omega.{arith}
 use native.Mathlib.Numerals.{add-one}
 use lib.Dec.{eqb, ltb}
-use lib.ListN.{length, getD, set, take, drop, length-append}
-use lib.Seq.{paste, getD-set-same, getD-set-other, getD-append-seam, append-snoc, take-append-le, length-paste}
+use lib.ListN.{length, getD, set, take, drop, length-append, length-drop}
+use lib.Seq.{paste, length-take-le, getD-set-same, getD-set-other, getD-append-seam, append-snoc, take-append-le, length-paste}
 use borrow.Author.Tests.{eqb-true, eqb-false, lt-ltb}
 use Rattle.classes.specs.Choice.{pick}
 use Rattle.sheetform.specs.Form.{valuesAt}
@@ -16,12 +16,16 @@ use Rattle.sheetlaws.specs.Sheet.{arNext, place}
 use Rattle.sheet.specs.Find.{ArcsGood, arc-there}
 use Rattle.annotate.specs.declared.Whom.{Whom}
 use Rattle.patching.specs.Scratch.{backWritten}
+use Rattle.history.specs.EventLaws.{clash}
+use Rattle.arcrun.specs.declared.Least.{Least}
 use Rattle.arcrun.specs.declared.Least.the-variants as least
 use Rattle.arcrun.specs.Run.{CellRan, CellsRan}
 use Rattle.seats.specs.Seats.{There, partNo, SeatsRan, CellsSeatsRan}
 use Rattle.seats.specs.Laws.{part-own, part-other, flags-other}
 use Rattle.patch.specs.declared.Swap.{Swap}
-use Rattle.patch.specs.Loops.{anySet, SwapReady, ArcRan, ArcsRan, ArcsWritten}
+use Rattle.patch.specs.declared.Patched.the-variants as patched
+use Rattle.patch.specs.Loops.{anySet, isFault, SwapReady, ArcRan, ArcsRan, ArcsWritten, TouchedSwapped}
+use Rattle.patch.specs.Turns.{touched-go}
 use Rattle.patch.specs.ArcLaws.{flagsAt, ArcsSoFar, arcs-none, arcs-more, arcs-pass, arcs-end, WrittenSoFar, written-none, written-more, written-pass, written-end, arc-ran-behind}
 
 -- an element of the first of two lists
@@ -39,6 +43,27 @@ unfoldable pub backs : (b arcs flags states o : List ℕ) → ℕ → List ℕ
 backs b arcs flags states o zero = o
 backs b arcs flags states o (suc i) =
     backWritten (backs b arcs flags states o i) (valuesAt b (getD arcs i 0)) (partNo 144 states i) (partNo 18 flags i) 18
+
+pub back-more : (b arcs flags states o : List ℕ) (i : ℕ) (old now : List ℕ) → old ≡ backs b arcs flags states o i
+    → now ≡ backWritten old (valuesAt b (getD arcs i 0)) (partNo 144 states i) (partNo 18 flags i) 18 → now ≡ backs b arcs flags states o (i + 1)
+unfolding backs
+back-more b arcs flags states o i old now e d = rw (add-one, ← e, d)
+
+-- one seat more has its values
+pub loaded-more : (b arcs : List ℕ) (i : ℕ) (old now st : List ℕ) → arNext b (getD arcs i 0) ≤ length b → 144 * i + 144 ≤ length old
+    → StatesLoaded b arcs i old → st ≡ take 144 (drop (valuesAt b (getD arcs i 0)) b) → now ≡ paste old (144 * i) st (length st)
+    → StatesLoaded b arcs (i + 1) now
+loaded-more b arcs i old now st there room so e d k h = go (eqb k i) refl
+  where
+    long : length st ≡ 144
+    long = rw e (length-take-le 144 (drop (valuesAt b (getD arcs i 0)) b) (simp length-drop (omega (arith, there))))
+
+    is : now ≡ paste old (144 * i) st 144
+    is = rw long at d
+
+    go : (z : Bool) → eqb k i ≡ z → partNo 144 now k ≡ take 144 (drop (valuesAt b (getD arcs k 0)) b)
+    go true p = rw (eqb-true k i p, is, part-own old st (144 * i) 144 (omega arith) long) e
+    go false p = let x = eqb-false k i p in rw (is, part-other old st i k (omega arith) long x) (so k (omega arith))
 
 module _ (b : List ℕ) (n m f : ℕ) (file incoming : List ℕ) (slash : Bool) (cells entries cells2 entries2 : List ℕ) (swap : Swap) where
   -- each seat went through the new file from the starting sheet's values without a fault
@@ -243,3 +268,11 @@ module _ (b : List ℕ) (n m f : ℕ) (file incoming : List ℕ) (slash : Bool) 
       seats-written =
           written-end b n m f file incoming slash cells entries cells2 entries2 swap leaver type newcomer type2 current
           (backs b arcs flags states current (length (seated m))) (written m (omega arith))
+
+    -- the swap is done
+    pub touched-seated : (own : Least) (current current′ : List ℕ) → isFault own ≡ false → SwapSeated current current′ true
+        → TouchedSwapped b n m f file incoming slash cells entries cells2 entries2 swap leaver type newcomer type2 own current current′ patched.Done
+    touched-seated least.Nothing current current′ e w =
+        touched-go b n m f file incoming slash cells entries cells2 entries2 swap leaver type newcomer type2 least.Nothing least.Nothing current current′ refl
+        (w .0) (w .1)
+    touched-seated (least.Fault ev x p i) current current′ e w = clash (sym e)

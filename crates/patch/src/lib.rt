@@ -635,8 +635,8 @@ fn write_arcs<'a>(
 }
 
 // Seats an arc and its flags, if there is a seat left.
-fn seat_arc(arcs: &mut [usize; 64], flags: &mut [u8], seat: usize, arc: usize, mask: &[u8])
-    requires { ⌜ (length (now mask) ≡ 18) × (length (now flags) ≡ 1152) ⌝ }
+fn seat_arc(arcs: &mut [usize], flags: &mut [u8], seat: usize, arc: usize, mask: &[u8])
+    requires { ⌜ (length (now mask) ≡ 18) × (length (now arcs) ≡ 64) × (length (now flags) ≡ 1152) ⌝ }
     ensures { λ _. ⌜ (now (arcs .exit) ≡ pick (ltb seat 64) (set (now (arcs .entry)) seat arc) (now (arcs .entry)))
         × (now (flags .exit) ≡ pick (ltb seat 64) (paste (now (flags .entry)) (18 * seat) (now (mask .entry)) 18) (now (flags .entry))) ⌝ }
 {
@@ -662,11 +662,11 @@ fn seat_arcs<'a>(
     entries2: &[u64],
     comer: Whom,
     comertype: &[u8],
-    arcs: &mut [usize; 64],
+    arcs: &mut [usize],
     flags: &mut [u8],
 ) -> usize
     requires { ⌜ (SwapFits (now start) plan swap (now places) (now cells) (now entries) leaver (now cells2) (now entries2) comer)
-        × (length (now flags) ≡ 1152) ⌝ }
+        × (length (now arcs) ≡ 64) × (length (now flags) ≡ 1152) ⌝ }
     ensures { λ r. ⌜ (length (now (flags .exit)) ≡ 1152) × ArcsSeated (now (start .entry)) (plan .instances) (plan .arcs) (plan .first)
         (now (file .entry)) (now (incoming .entry)) (plan .slash) (now (cells .entry)) (now (entries .entry)) (now (cells2 .entry)) (now (entries2 .entry)) swap
         leaver (now (leavertype .entry)) comer (now (comertype .entry)) (now (arcs .exit)) (now (flags .exit)) r ⌝ }
@@ -682,6 +682,7 @@ fn seat_arcs<'a>(
             incoming,
             plan,
             swap,
+            places,
             entries,
             leaver,
             leavertype,

@@ -1,72 +1,109 @@
+-- `patch::load_seats` meets its contract. Invariant: the first i seats have their values.
+-- Assumes nothing.
+use Prim.Native.Nat.{_-_, _≤_}
+use mathlib.Core.Path.{_≡_, sym, _∙_}
+use native.Mathlib.Omega.{arith}
+use lib.ListN.{length}
+use denote.Ref.{now}
+use borrow.Author.Needs.{needs}
+use Rattle.patch.specs.Seated.{StatesLoaded, loaded-more}
 use Rattle.patch.proofs.load_seats.Statement.{statement}
 use Rattle.patch.proofs.load_seats.Tie as tie
-use Rattle.patch.proofs.load_seats.Reads as reads
-use Rattle.patch.proofs.load_seats.Lts as lts
-use Rattle.patch.proofs.load_values.Reads as load-values-reads
-use Rattle.seats.proofs.store.Reads as store-reads
-use Rattle.sheet.proofs.values_place.Reads as values-place-reads
 
 abbrev Inv-loop : tie.InvT-loop
-Inv-loop start arcs count states₀ i₀ states i = ?
+Inv-loop start arcs count states₀ i₀ states i = (i ≤ count) × (length states ≡ 9216) × StatesLoaded start arcs i states
 
 abbrev μ-loop : tie.MeasureT-loop
-μ-loop start arcs count states₀ i₀ states i = ?
+μ-loop start arcs count states₀ i₀ states i = count - i
 
--- src/lib.rt:704:5
 loop-holds : tie.Need-loop-holds Inv-loop μ-loop
-loop-holds c = ?
+loop-holds c =
+    let pre = c .before .before .pre in
+    (omega arith, pre .2, λ i h. absurd (omega arith))
 
--- src/lib.rt:706:55
 mul-values-place : tie.Need-mul-values-place Inv-loop μ-loop
-mul-values-place c = ?
+mul-values-place c =
+    let loop-test = c .loop-test in
+    let pre = c .before .before .before .before .pre in
+    omega (arith, loop-test .taken, pre .1)
 
--- src/lib.rt:706:55
 element-copy-out-values-place : tie.Need-element-copy-out-values-place Inv-loop μ-loop
-element-copy-out-values-place c = ?
+element-copy-out-values-place c =
+    let loop-test = c .loop-test in
+    let pre = c .before .before .before .before .pre in
+    omega (arith, loop-test .taken, pre .1)
 
--- src/lib.rt:706:28
 values-place-requires : tie.Need-values-place-requires Inv-loop μ-loop
-values-place-requires c κs = ?
+values-place-requires c κs =
+    let pre = c .before .before .before .before .before .pre in
+    let loop' = c .before .before .loop in
+    let loop-test = c .before .loop-test in
+    pre .0 (loop' .i) (loop-test .taken)
 
--- src/lib.rt:706:65
 slice-aggregate-load-values : tie.Need-slice-aggregate-load-values Inv-loop μ-loop
-slice-aggregate-load-values c = ?
+slice-aggregate-load-values c = search needs
 
--- src/lib.rt:706:9
 load-values-requires : tie.Need-load-values-requires Inv-loop μ-loop
-load-values-requires c κs = ?
+load-values-requires c κs =
+    let pre = c .before .before .before .before .before .before .before .pre in
+    let loop' = c .before .before .before .before .loop in
+    let loop-test = c .before .before .before .loop-test in
+    let values-place = c .before .values-place in
+    let w = pre .0 (loop' .i) (loop-test .taken) in
+    (rw (values-place .ensures) (omega (arith, w)), search needs)
 
--- src/lib.rt:707:30
 mul-store : tie.Need-mul-store Inv-loop μ-loop
-mul-store c = ?
+mul-store c =
+    let loop-test = c .before .before .before .before .before .before .loop-test in
+    let pre = c .before .before .before .before .before .before .before .before .before .before .pre in
+    omega (arith, loop-test .taken, pre .1)
 
--- src/lib.rt:707:39
 slice-aggregate-store : tie.Need-slice-aggregate-store Inv-loop μ-loop
-slice-aggregate-store c = ?
+slice-aggregate-store c = search needs
 
--- src/lib.rt:707:9
 store-requires : tie.Need-store-requires Inv-loop μ-loop
-store-requires c κs = ?
+store-requires c κs =
+    let loop-test = c .before .before .before .before .before .before .before .loop-test in
+    let pre = c .before .before .before .before .before .before .before .before .before .before .before .pre in
+    let loop' = c .before .before .before .before .before .before .before .before .loop in
+    omega (arith, loop-test .taken, pre .1, loop' .inv .1)
 
--- src/lib.rt:708:9
 add-i : tie.Need-add-i Inv-loop μ-loop
-add-i c = ?
+add-i c =
+    let loop-test = c .before .before .before .before .before .before .before .before .before .before .loop-test in
+    let pre = c .before .before .before .before .before .before .before .before .before .before .before .before .before .before .pre in
+    omega (arith, loop-test .taken, pre .1)
 
--- src/lib.rt:704:5
 loop-less : tie.Need-loop-less Inv-loop μ-loop
-loop-less c = ?
+loop-less c =
+    let loop-test = c .before .before .before .before .before .before .before .before .before .before .loop-test in
+    omega (arith, loop-test .taken)
 
--- src/lib.rt:704:5
 loop-again : tie.Need-loop-again Inv-loop μ-loop
-loop-again c = ?
+loop-again c =
+    let loop-test = c .before .before .before .before .before .before .before .before .before .before .loop-test in
+    let states = c .before .states in
+    let loop' = c .before .before .before .before .before .before .before .before .before .before .before .loop in
+    let args = c .before .before .before .before .before .before .before .before .before .before .before .before .before .before .args in
+    let pre = c .before .before .before .before .before .before .before .before .before .before .before .before .before .before .pre in
+    let values-place = c .before .before .before .before .before .before .before .before .values-place in
+    let load-values = c .before .before .before .before .before .before .load-values in
+    let store = c .before .before .store in
+    (omega (arith, loop-test .taken), states .given ∙ loop' .inv .1, loaded-more (now (args .start)) (now (args .arcs)) (loop' .i) (loop' .states) _ _ (pre .0 (loop' .i) (loop-test .taken)) (omega (arith, loop-test .taken, pre .1, loop' .inv .1)) (loop' .inv .2) (rw (values-place .ensures) at (load-values .ensures)) (store .ensures))
 
--- src/lib.rt:699:1
 same-length : tie.Need-same-length Inv-loop μ-loop
-same-length c = ?
+same-length c =
+    let loop' = c .before .loop in
+    let pre = c .before .before .before .before .pre in
+    loop' .inv .1 ∙ sym (pre .2)
 
--- src/lib.rt:699:1
 returns : tie.Need-returns Inv-loop μ-loop
-returns c = ?
+returns c =
+    let loop' = c .before .loop in
+    let args = c .before .before .before .before .args in
+    let loop-test = c .loop-test in
+    let e : loop' .i ≡ args .count = omega (arith, loop-test .left, loop' .inv .0) in
+    (loop' .inv .1, rw e at (loop' .inv .2))
 
 pub load-seats-spec : {M : Type 1} → statement M
 load-seats-spec =

@@ -1,88 +1,125 @@
+-- `patch::write_seats` meets its contract. Invariant: the first i seats are written.
+-- Assumes nothing.
+use Prim.Native.Nat.{_-_, _≤_}
+use mathlib.Core.Path.{_≡_, refl, _∙_}
+use native.Mathlib.Omega.{arith}
+use lib.ListN.{length}
+use denote.Ref.{now}
+use borrow.Author.Needs.{needs}
+use Rattle.patch.specs.Seated.{backs, back-more}
 use Rattle.patch.proofs.write_seats.Statement.{statement}
 use Rattle.patch.proofs.write_seats.Tie as tie
-use Rattle.patch.proofs.write_seats.Reads as reads
-use Rattle.patch.proofs.write_seats.Lts as lts
-use Rattle.patch.proofs.write_back.Reads as write-back-reads
-use Rattle.seats.proofs.load.Reads as load-reads
-use Rattle.sheet.proofs.values_place.Reads as values-place-reads
 
 abbrev Inv-loop : tie.InvT-loop
-Inv-loop start arcs count flags states current₀ i₀ current i = ?
+Inv-loop start arcs count flags states current₀ i₀ current i = (i ≤ count) × (length current ≡ length current₀) × (current ≡ backs start arcs flags states current₀ i)
 
 abbrev μ-loop : tie.MeasureT-loop
-μ-loop start arcs count flags states current₀ i₀ current i = ?
+μ-loop start arcs count flags states current₀ i₀ current i = count - i
 
--- src/lib.rt:815:5
 loop-holds : tie.Need-loop-holds Inv-loop μ-loop
-loop-holds c = ?
+unfolding backs
+loop-holds c = (omega arith, refl, refl)
 
--- src/lib.rt:817:28
 mul-load : tie.Need-mul-load Inv-loop μ-loop
-mul-load c = ?
+mul-load c =
+    let loop-test = c .loop-test in
+    let pre = c .before .before .before .before .before .before .pre in
+    omega (arith, loop-test .taken, pre .1)
 
--- src/lib.rt:817:36
 slice-aggregate-load : tie.Need-slice-aggregate-load Inv-loop μ-loop
-slice-aggregate-load c = ?
+slice-aggregate-load c = search needs
 
--- src/lib.rt:817:9
 load-requires : tie.Need-load-requires Inv-loop μ-loop
-load-requires c κs = ?
+load-requires c κs =
+    let loop-test = c .before .loop-test in
+    let pre = c .before .before .before .before .before .before .before .pre in
+    omega (arith, loop-test .taken, pre .1, pre .2)
 
--- src/lib.rt:819:29
 mul-load-2 : tie.Need-mul-load-2 Inv-loop μ-loop
-mul-load-2 c = ?
+mul-load-2 c =
+    let loop-test = c .before .before .before .loop-test in
+    let pre = c .before .before .before .before .before .before .before .before .before .pre in
+    omega (arith, loop-test .taken, pre .1)
 
--- src/lib.rt:819:38
 slice-aggregate-load-2 : tie.Need-slice-aggregate-load-2 Inv-loop μ-loop
-slice-aggregate-load-2 c = ?
+slice-aggregate-load-2 c = search needs
 
--- src/lib.rt:819:9
 load-requires-2 : tie.Need-load-requires-2 Inv-loop μ-loop
-load-requires-2 c κs = ?
+load-requires-2 c κs =
+    let loop-test = c .before .before .before .before .loop-test in
+    let pre = c .before .before .before .before .before .before .before .before .before .before .pre in
+    omega (arith, loop-test .taken, pre .1, pre .3)
 
--- src/lib.rt:820:56
 mul-values-place : tie.Need-mul-values-place Inv-loop μ-loop
-mul-values-place c = ?
+mul-values-place c =
+    let loop-test = c .before .before .before .before .before .before .before .loop-test in
+    let pre = c .before .before .before .before .before .before .before .before .before .before .before .before .before .pre in
+    omega (arith, loop-test .taken, pre .1)
 
--- src/lib.rt:820:56
 element-copy-out-values-place : tie.Need-element-copy-out-values-place Inv-loop μ-loop
-element-copy-out-values-place c = ?
+element-copy-out-values-place c =
+    let loop-test = c .before .before .before .before .before .before .before .loop-test in
+    let pre = c .before .before .before .before .before .before .before .before .before .before .before .before .before .pre in
+    omega (arith, loop-test .taken, pre .1)
 
--- src/lib.rt:820:29
 values-place-requires : tie.Need-values-place-requires Inv-loop μ-loop
-values-place-requires c κs = ?
+values-place-requires c κs =
+    let pre = c .before .before .before .before .before .before .before .before .before .before .before .before .before .before .pre in
+    let loop' = c .before .before .before .before .before .before .before .before .before .loop in
+    let loop-test = c .before .before .before .before .before .before .before .before .loop-test in
+    pre .0 (loop' .i) (loop-test .taken)
 
--- src/lib.rt:820:66
 slice-aggregate-write-back : tie.Need-slice-aggregate-write-back Inv-loop μ-loop
-slice-aggregate-write-back c = ?
+slice-aggregate-write-back c = search needs
 
--- src/lib.rt:820:74
 slice-aggregate-write-back-2 : tie.Need-slice-aggregate-write-back-2 Inv-loop μ-loop
-slice-aggregate-write-back-2 c = ?
+slice-aggregate-write-back-2 c = search needs
 
--- src/lib.rt:820:9
 write-back-requires : tie.Need-write-back-requires Inv-loop μ-loop
-write-back-requires c κs = ?
+write-back-requires c κs =
+    let pre = c .before .before .before .before .before .before .before .before .before .before .before .before .before .before .before .before .before .pre in
+    let loop' = c .before .before .before .before .before .before .before .before .before .before .before .before .loop in
+    let loop-test = c .before .before .before .before .before .before .before .before .before .before .before .loop-test in
+    let values-place = c .before .before .values-place in
+    let w = pre .0 (loop' .i) (loop-test .taken) in
+    let l = loop' .inv .1 ∙ pre .4 in
+    (rw (values-place .ensures) (omega (arith, w, l)), search needs, search needs)
 
--- src/lib.rt:821:9
 add-i : tie.Need-add-i Inv-loop μ-loop
-add-i c = ?
+add-i c =
+    let loop-test = c .before .before .before .before .before .before .before .before .before .before .before .before .before .before .loop-test in
+    let pre = c .before .before .before .before .before .before .before .before .before .before .before .before .before .before .before .before .before .before .before .before .pre in
+    omega (arith, loop-test .taken, pre .1)
 
--- src/lib.rt:815:5
 loop-less : tie.Need-loop-less Inv-loop μ-loop
-loop-less c = ?
+loop-less c =
+    let loop-test = c .before .before .before .before .before .before .before .before .before .before .before .before .before .before .loop-test in
+    omega (arith, loop-test .taken)
 
--- src/lib.rt:815:5
 loop-again : tie.Need-loop-again Inv-loop μ-loop
-loop-again c = ?
+loop-again c =
+    let loop-test = c .before .before .before .before .before .before .before .before .before .before .before .before .before .before .loop-test in
+    let current = c .before .current in
+    let loop' = c .before .before .before .before .before .before .before .before .before .before .before .before .before .before .before .loop in
+    let args = c .before .before .before .before .before .before .before .before .before .before .before .before .before .before .before .before .before .before .before .before .args in
+    let write-back = c .before .before .write-back in
+    let values-place = c .before .before .before .before .before .values-place in
+    let load = c .before .before .before .before .before .before .before .before .before .before .before .before .load in
+    let load2 = c .before .before .before .before .before .before .before .before .before .load2 in
+    (omega (arith, loop-test .taken), current .given ∙ loop' .inv .1, back-more (now (args .start)) (now (args .arcs)) (now (args .flags)) (now (args .states)) (now (args .current)) (loop' .i) (loop' .current) _ (loop' .inv .2) (write-back .ensures ∙ rw (values-place .ensures, load .ensures, load2 .ensures)))
 
--- src/lib.rt:802:1
 same-length : tie.Need-same-length Inv-loop μ-loop
-same-length c = ?
+same-length c =
+    let loop' = c .before .loop in
+    loop' .inv .1
 
--- src/lib.rt:802:1
 returns : tie.Need-returns Inv-loop μ-loop
-returns c = ?
+returns c =
+    let loop' = c .before .loop in
+    let args = c .before .before .before .before .before .before .args in
+    let loop-test = c .loop-test in
+    let e : loop' .i ≡ args .count = omega (arith, loop-test .left, loop' .inv .0) in
+    rw e at (loop' .inv .2)
 
 pub write-seats-spec : {M : Type 1} → statement M
 write-seats-spec =
