@@ -823,7 +823,17 @@ pub fn patch<'a>(
         (now (cells .entry)) (now (cells .exit)) (now (entries .entry)) (now (entries .exit)) (now (cells2 .entry)) (now (cells2 .exit))
         (now (entries2 .entry)) (now (entries2 .exit)) (now (current .entry)) (now (current .exit)) r ⌝ }
 {
-    let counted = patch_counted(start, file, number, incoming, current, cells, entries, cells2, entries2);
+    let counted = patch_counted(
+        start,
+        file,
+        number,
+        incoming,
+        current,
+        cells,
+        entries,
+        cells2,
+        entries2,
+    );
     counted.answer
 }
 

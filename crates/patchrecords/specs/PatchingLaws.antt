@@ -179,18 +179,21 @@ module _ (by : ℕ → Course) (start : List ℕ) (room : ℕ) (u u′ t t′ u2
       let g : CountedIs start (by room) (take (7 * room) u) u′ t t′ u2 u2′ t2 t2′ current current′ r = rw (n .0) at is in
       let o = fileOf (by room) in
       let c = cut o u u′ room h (file-is start (by room) (take (7 * room) u) u′ t t′ u2 u2′ t2 t2′ current current′ r g) l in
-      rw (n .1) ((
-        record {
-          says = g .0 .says;
-          cells = c .0 ∙ sym (file-left cellsLeft u (λ x q. refl) (by room));
-          entries = g .0 .entries;
-          incomingCells = g .0 .incomingCells;
-          incomingEntries = g .0 .incomingEntries;
-          sheet = g .0 .sheet;
-        },
-        g .1,
-        g .2,
-      ), rw (file-count start (by room) (take (7 * room) u) u′ t t′ u2 u2′ t2 t2′ current current′ r g) (c .1))
+      rw (n .1) (
+        (
+          record {
+            says = g .0 .says;
+            cells = c .0 ∙ sym (file-left cellsLeft u (λ x q. refl) (by room));
+            entries = g .0 .entries;
+            incomingCells = g .0 .incomingCells;
+            incomingEntries = g .0 .incomingEntries;
+            sheet = g .0 .sheet;
+          },
+          g .1,
+          g .2,
+        ),
+        rw (file-count start (by room) (take (7 * room) u) u′ t t′ u2 u2′ t2 t2′ current current′ r g) (c .1),
+      )
 
   pub file-whole : length u / 7 ≤ room → CountedIs start (by (length u / 7)) u u′ t t′ u2 u2′ t2 t2′ current current′ r → length u′ ≡ length u → FileWithin u′
   file-whole h is l =
@@ -207,18 +210,21 @@ module _ (by : ℕ → Course) (start : List ℕ) (room : ℕ) (u u′ t t′ u2
       let g : CountedIs start (by room) u u′ t t′ (take (7 * room) u2) u2′ t2 t2′ current current′ r = rw (n .0) at is in
       let o = cellOf (by room) in
       let c = cut o u2 u2′ room h (cell-is start (by room) u u′ t t′ (take (7 * room) u2) u2′ t2 t2′ current current′ r g) l in
-      rw (n .1) ((
-        record {
-          says = g .0 .says;
-          cells = g .0 .cells;
-          entries = g .0 .entries;
-          incomingCells = c .0 ∙ sym (cell-left cellsLeft u2 (λ x q. refl) (by room));
-          incomingEntries = g .0 .incomingEntries;
-          sheet = g .0 .sheet;
-        },
-        g .1,
-        g .2,
-      ), rw (cell-count start (by room) u u′ t t′ (take (7 * room) u2) u2′ t2 t2′ current current′ r g) (c .1))
+      rw (n .1) (
+        (
+          record {
+            says = g .0 .says;
+            cells = g .0 .cells;
+            entries = g .0 .entries;
+            incomingCells = c .0 ∙ sym (cell-left cellsLeft u2 (λ x q. refl) (by room));
+            incomingEntries = g .0 .incomingEntries;
+            sheet = g .0 .sheet;
+          },
+          g .1,
+          g .2,
+        ),
+        rw (cell-count start (by room) u u′ t t′ (take (7 * room) u2) u2′ t2 t2′ current current′ r g) (c .1),
+      )
 
   pub cell-whole : length u2 / 7 ≤ room → CountedIs start (by (length u2 / 7)) u u′ t t′ u2 u2′ t2 t2′ current current′ r → length u2′ ≡ length u2 → CellWithin u2′
   cell-whole h is l =

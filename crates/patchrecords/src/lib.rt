@@ -30,9 +30,29 @@ fn patch_incoming_within<'a>(
         × (r .incoming ≤ room2) ⌝ }
 {
     if room2 < table2.len() / 7 {
-        return patch::patch_counted(start, file, number, incoming, current, table, entries, &mut table2[..7 * room2], entries2);
+        return patch::patch_counted(
+            start,
+            file,
+            number,
+            incoming,
+            current,
+            table,
+            entries,
+            &mut table2[..7 * room2],
+            entries2,
+        );
     }
-    patch::patch_counted(start, file, number, incoming, current, table, entries, table2, entries2)
+    patch::patch_counted(
+        start,
+        file,
+        number,
+        incoming,
+        current,
+        table,
+        entries,
+        table2,
+        entries2,
+    )
 }
 
 // And where so many cells of the file have a record too.
@@ -68,7 +88,18 @@ fn patch_within<'a>(
             room2,
         );
     }
-    patch_incoming_within(start, file, number, incoming, current, table, entries, table2, entries2, room2)
+    patch_incoming_within(
+        start,
+        file,
+        number,
+        incoming,
+        current,
+        table,
+        entries,
+        table2,
+        entries2,
+        room2,
+    )
 }
 
 // How many cells of the file were read.

@@ -141,19 +141,18 @@ returns-2 c =
     let answer2 = c .before .before .before .before .before .before .before .before .before .before .answer2 in
     let pre = c .before .before .before .before .before .before .before .before .before .before .before .before .before .before .before .before .before .before .before .before .before .before .before .before .before .before .before .pre in
     let count-entries = c .before .before .before .before .before .before .before .before .count-entries in
-    let swap-cell = c .before .before .swap-cell in
-    (
+    let swap-cell = c .before .before .swap-cell in (
       cell-read (now (args .start)) (args .plan .instances) (args .plan .arcs) (args .plan .first) (now (args .file)) (now (args .incoming))
-        (args .plan .slash) (args .unit) (now (args .cells)) (now (args .entries)) (args .count) (args .outgoing) (now (args .cells2))
-        (read-cell .last .1 .1 .1 .0) (now (args .entries2)) (read-cell .last .1 .1 .1 .1 .0) (read-cell .result) (read-cell .ensures)
-        (answer2 .given .0 .0) (answer2 .given .0 .1 .0) (answer2 .given .1) (pre .4) (record {
-          outgoing = args .outgoing;
-          cells = args .count;
-          before = count-entries .result;
-          leaving = getD (now (args .cells)) (7 * args .outgoing + 6) 0;
-          coming = getD (read-cell .last .1 .1 .1 .0) 6
-              0;
-        }) refl refl (now (args .current)) (swap-cell .last .1 .1 .1 .1 .1 .1 .1 .1 .1 .0) (swap-cell .result) (swap-cell .ensures),
+          (args .plan .slash) (args .unit) (now (args .cells)) (now (args .entries)) (args .count) (args .outgoing) (now (args .cells2))
+          (read-cell .last .1 .1 .1 .0) (now (args .entries2)) (read-cell .last .1 .1 .1 .1 .0) (read-cell .result) (read-cell .ensures)
+          (answer2 .given .0 .0) (answer2 .given .0 .1 .0) (answer2 .given .1) (pre .4) (record {
+            outgoing = args .outgoing;
+            cells = args .count;
+            before = count-entries .result;
+            leaving = getD (now (args .cells)) (7 * args .outgoing + 6) 0;
+            coming = getD (read-cell .last .1 .1 .1 .0) 6
+                0;
+          }) refl refl (now (args .current)) (swap-cell .last .1 .1 .1 .1 .1 .1 .1 .1 .1 .0) (swap-cell .result) (swap-cell .ensures),
       refl,
       one-comes (now (args .start)) (args .plan .instances) (args .plan .arcs) (args .plan .first) (now (args .file))
           (now (args .incoming)) (args .plan .slash) (args .unit) (now (args .cells)) (now (args .entries)) (args .count) (args .outgoing)
