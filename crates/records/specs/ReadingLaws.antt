@@ -22,7 +22,7 @@ use Rattle.applying.specs.Rows.{cell-is}
 use Rattle.annotate.specs.Cells.{CellsAre}
 use Rattle.annotate.specs.CellList.{each-at}
 use Rattle.annotate.specs.TextLaws.{tables-sound}
-use Rattle.records.specs.Records.{recordOf, recordsOf, noRecord}
+use Rattle.records.specs.Records.{firstOf, recordOf, recordsOf, noRecord}
 use Rattle.records.specs.Reading.{roomFor, countOf, recordsLeft, WithinIs, RecordsAre}
 
 -- the first k of a list, and one more
@@ -41,7 +41,7 @@ drop-front (suc n) [] y h = absurd (omega arith)
 drop-front (suc n) (a ∷ x) y h = drop-front n x y (omega arith)
 
 rows-take : (t : List ℕ) (n : ℕ) (cs : List Cell) → CellsAre t n cs → (k : ℕ) → k ≤ n → recordsOf t k ≡ take k cs
-unfolding recordsOf
+unfolding firstOf
 rows-take t n cs a zero h = refl
 rows-take t n cs a (suc k) h =
     let l : k < length cs = (let z = a .0 in omega arith) in
@@ -58,7 +58,7 @@ Sounds o = (st : At) → o ≡ fine st → SoundLog (st .book .log)
 -- what the fill leaves, of a text that was read and of a refused one
 pub left-is : (o : Res At) (u : List ℕ) (rs : List Cell) → Sounds o
     → recordsOf (cellsLeft o u) (countOf (answerOf o)) ++ drop (countOf (answerOf o)) rs ≡ recordsLeft o rs
-unfolding recordsOf
+unfolding firstOf
 left-is (fine st) u rs sound =
     let cs = st .book .log .cells in
     ap (λ r. r ++ drop (length cs) rs) (rows-are (cellsLeft (fine st) u) cs (tables-sound st u [] (sound st refl) .cells))
