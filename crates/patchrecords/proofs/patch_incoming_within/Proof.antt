@@ -11,9 +11,6 @@ use Rattle.patch.specs.Meaning.{course}
 use Rattle.patchrecords.specs.PatchingLaws.{cell-part, cell-whole}
 use Rattle.patchrecords.proofs.patch_incoming_within.Statement.{statement}
 use Rattle.patchrecords.proofs.patch_incoming_within.Tie as tie
-use Rattle.patchrecords.proofs.patch_incoming_within.Reads as reads
-use Rattle.patchrecords.proofs.patch_incoming_within.Lts as lts
-use Rattle.patch.proofs.patch_counted.Reads as patch-counted-reads
 
 mul-patch-counted : tie.Need-mul-patch-counted
 mul-patch-counted c = search needs

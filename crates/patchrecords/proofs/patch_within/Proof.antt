@@ -12,9 +12,6 @@ use Rattle.patch.specs.Meaning.{course}
 use Rattle.patchrecords.specs.PatchingLaws.{file-part, file-whole}
 use Rattle.patchrecords.proofs.patch_within.Statement.{statement}
 use Rattle.patchrecords.proofs.patch_within.Tie as tie
-use Rattle.patchrecords.proofs.patch_within.Reads as reads
-use Rattle.patchrecords.proofs.patch_within.Lts as lts
-use Rattle.patchrecords.proofs.patch_incoming_within.Reads as patch-incoming-within-reads
 
 mul-patch-incoming-within : tie.Need-mul-patch-incoming-within
 mul-patch-incoming-within c = search needs

@@ -11,9 +11,6 @@ use Rattle.grammar.specs.Outcome.{readCell}
 use Rattle.records.specs.ReadingLaws.{within-part, within-whole}
 use Rattle.records.proofs.read_cell_within.Statement.{statement}
 use Rattle.records.proofs.read_cell_within.Tie as tie
-use Rattle.records.proofs.read_cell_within.Reads as reads
-use Rattle.records.proofs.read_cell_within.Lts as lts
-use Rattle.reader.proofs.read_cell.Reads as read-cell-reads
 
 mul-read-cell : tie.Need-mul-read-cell
 mul-read-cell c = search needs
