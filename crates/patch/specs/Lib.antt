@@ -1,4 +1,5 @@
 pub mod Meaning
+pub mod Counted
 pub mod Swap
 pub mod Loops
 pub mod Turns

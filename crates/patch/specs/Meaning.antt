@@ -93,15 +93,16 @@ currentOf start current (nonumber st) = current
 currentOf start current (unreadCell st x q) = current
 currentOf start current (judged n m f st st2 a) = sheetOf start current n m f a
 
--- 'Tables of a text refused or not reached are as lent; those of a text already read keep its reading.' The file's, then the incoming text's
-unfoldable pub fileTable : (Res At → List ℕ → List ℕ) → List ℕ → Course → List ℕ
+-- 'Tables of a text refused or not reached are as lent; those of a text already read keep its reading.' The file's, then the incoming text's;
+-- `left` says what a reading leaves of what was lent
+unfoldable pub fileTable : {A : Type 0} → (Res At → A → A) → A → Course → A
 fileTable left t (unfit x) = t
 fileTable left t (unread x q) = t
 fileTable left t (nonumber st) = left (fine st) t
 fileTable left t (unreadCell st x q) = left (fine st) t
 fileTable left t (judged n m f st st2 a) = left (fine st) t
 
-unfoldable pub cellTable : (Res At → List ℕ → List ℕ) → List ℕ → Course → List ℕ
+unfoldable pub cellTable : {A : Type 0} → (Res At → A → A) → A → Course → A
 cellTable left t (unfit x) = t
 cellTable left t (unread x q) = t
 cellTable left t (nonumber st) = t

@@ -37,9 +37,11 @@ use Rattle.annotate.specs.Cells.{entriesBefore, CellsAre}
 use Rattle.annotate.specs.TextLaws.{Tables, tables-sound, read-tables}
 use Rattle.patching.specs.Where.{at}
 use Rattle.patch.specs.declared.Swap.{Swap}
+use Rattle.patch.specs.declared.Counted.{Counted}
 use Rattle.patch.specs.declared.Patched.{Patched}
 use Rattle.patch.specs.declared.Patched.the-variants as patched
-use Rattle.patch.specs.Meaning.{said, firstCell, byCell, byFile, course, answerOf, currentOf, fileTable, cellTable, PatchIs}
+use Rattle.patch.specs.Meaning.{said, firstCell, byCell, byFile, course, answerOf, currentOf, fileTable, cellTable}
+use Rattle.patch.specs.Counted.{countOf, cellsRead, CountedIs}
 use Rattle.patch.specs.Swap.{Given, olds, comer}
 use Rattle.patch.specs.Loops.{SwapReady, SwapRun, ByIncoming, CellPatched}
 
@@ -130,6 +132,13 @@ module _ (b : List ℕ) (n m f : ℕ) (file incoming : List ℕ) (slash : Bool) 
       go (fine st) e c d = let z : _≡_ {A = ℕ} 0 1 = cc in absurd (omega arith)
       go (bad y p) e c d = (cc, c, d, refl)
 
+  -- how many cells it has
+  pub none-come : (x q : ℕ) → r .answer ≡ answer.Refused x q → 0 ≡ cellsRead (readCell slash unit (length cells2 / 7) (length entries2 / 28) incoming)
+  none-come x q e = ap countOf (sym e ∙ file-is .says)
+
+  pub one-comes : (one all : ℕ) → r .answer ≡ answer.Read one all → one ≡ cellsRead (readCell slash unit (length cells2 / 7) (length entries2 / 28) incoming)
+  one-comes one all e = ap countOf (sym e ∙ file-is .says)
+
   -- or what the swap of the cell that was read asks
   pub cell-ready : (one all : ℕ) → r .answer ≡ answer.Read one all → (swap : Swap) → 7 * count ≤ length cells
       → 28 * entriesBefore cells count ≤ length entries → k < count → swap .cells ≡ count → swap .outgoing ≡ k → swap .before ≡ entriesBefore cells k
@@ -172,30 +181,34 @@ module _ (b : List ℕ) (n m f : ℕ) (file incoming : List ℕ) (slash : Bool) 
 
 -- 3. For every input
 
+-- a refusal, where so many cells of the file were read and none of the incoming text
+abbrev after : (number place : ℕ) (side : Bool) (cells : ℕ) → Counted
+after number place side cells = record { answer = patched.Refused number place side; cells = cells; incoming = 0 }
+
 module _ (start file : List ℕ) (number : ℕ) (incoming current : List ℕ) (cr ir cr2 ir2 : ℕ) (u t u2 t2 : List ℕ) where
   -- 10
   pub patch-unfit : (k p : ℕ) → checkOf start ≡ Bad k p
-      → PatchIs start (course start file number incoming current cr ir cr2 ir2) u u t t u2 u2 t2 t2 current current (patched.Refused 10 0 false)
+      → CountedIs start (course start file number incoming current cr ir cr2 ir2) u u t t u2 u2 t2 t2 current current (after 10 0 false 0)
   unfolding course answerOf currentOf fileTable cellTable
   patch-unfit k p e =
-      rw e (record { says = refl; cells = refl; entries = refl; incomingCells = refl; incomingEntries = refl; sheet = refl })
+      rw e (record { says = refl; cells = refl; entries = refl; incomingCells = refl; incomingEntries = refl; sheet = refl }, refl, refl)
 
   module _ (n m f : ℕ) (good : checkOf start ≡ Good n m f) where
     -- 11
     pub patch-length : (length current ≡ length start → ⊥)
-        → PatchIs start (course start file number incoming current cr ir cr2 ir2) u u t t u2 u2 t2 t2 current current (patched.Refused 11 0 false)
+        → CountedIs start (course start file number incoming current cr ir cr2 ir2) u u t t u2 u2 t2 t2 current current (after 11 0 false 0)
     unfolding course answerOf currentOf fileTable cellTable
     patch-length h =
         rw (good, ne-eqb (length current) (length start) h)
-        (record { says = refl; cells = refl; entries = refl; incomingCells = refl; incomingEntries = refl; sheet = refl })
+        (record { says = refl; cells = refl; entries = refl; incomingCells = refl; incomingEntries = refl; sheet = refl }, refl, refl)
 
     -- 18
     pub patch-records : length current ≡ length start → sameRecords start current m f ≡ false
-        → PatchIs start (course start file number incoming current cr ir cr2 ir2) u u t t u2 u2 t2 t2 current current (patched.Refused 18 0 false)
+        → CountedIs start (course start file number incoming current cr ir cr2 ir2) u u t t u2 u2 t2 t2 current current (after 18 0 false 0)
     unfolding course answerOf currentOf fileTable cellTable
     patch-records h s =
         rw (good, eq-eqb (length current) (length start) h, s)
-        (record { says = refl; cells = refl; entries = refl; incomingCells = refl; incomingEntries = refl; sheet = refl })
+        (record { says = refl; cells = refl; entries = refl; incomingCells = refl; incomingEntries = refl; sheet = refl }, refl, refl)
 
     module _ (same : length current ≡ length start) (alike : sameRecords start current m f ≡ true) (u′ t′ : List ℕ) (r : FileRead)
         (file-is : FileIs (readFile cr ir file) u u′ t t′ r) where
@@ -206,23 +219,23 @@ module _ (start file : List ℕ) (number : ℕ) (incoming current : List ℕ) (c
 
       -- the file's own refusal
       pub patch-unread : (x q : ℕ) → r .answer ≡ answer.Refused x q
-          → PatchIs start (course start file number incoming current cr ir cr2 ir2) u u′ t t′ u2 u2 t2 t2 current current (patched.Refused x q false)
+          → CountedIs start (course start file number incoming current cr ir cr2 ir2) u u′ t t′ u2 u2 t2 t2 current current (after x q false 0)
       unfolding answerOf currentOf fileTable cellTable
       patch-unread x q e = rw fits (go (readFile cr ir file) (sym e ∙ file-is .says) (file-is .cells) (file-is .entries))
         where
           go : (o : Res At) → answer.Refused x q ≡ files.answerOf o → u′ ≡ cellsLeft o u → t′ ≡ entriesLeft o t
-              → PatchIs start (byFile start file number incoming current cr2 ir2 n m f o) u u′ t t′ u2 u2 t2 t2 current current (patched.Refused x q false)
+              → CountedIs start (byFile start file number incoming current cr2 ir2 n m f o) u u′ t t′ u2 u2 t2 t2 current current (after x q false 0)
           go (fine st) e c d = let z : _≡_ {A = ℕ} 0 1 = cc in absurd (omega arith)
-          go (bad y p) e c d = record { says = cc; cells = c; entries = d; incomingCells = refl; incomingEntries = refl; sheet = refl }
+          go (bad y p) e c d = (record { says = cc; cells = c; entries = d; incomingCells = refl; incomingEntries = refl; sheet = refl }, refl, refl)
 
       -- 17
       pub patch-number : (count all : ℕ) → r .answer ≡ answer.Read count all → (number ≡ 0) ⊎ (count < number)
-          → PatchIs start (course start file number incoming current cr ir cr2 ir2) u u′ t t′ u2 u2 t2 t2 current current (patched.Refused 17 0 false)
+          → CountedIs start (course start file number incoming current cr ir cr2 ir2) u u′ t t′ u2 u2 t2 t2 current current (after 17 0 false count)
       unfolding answerOf currentOf fileTable cellTable
       patch-number count all e h =
           let l = read-tables start file cr ir u u′ t t′ current n m f good same r file-is count all e in
           let z : or (eqb number 0) (ltb (length (l .0 .book .log .cells)) number) ≡ true = beyond _ (rw (l .5 .cells .0) h) in
-          rw (fits, l .1, z) (record { says = refl; cells = l .2; entries = l .3; incomingCells = refl; incomingEntries = refl; sheet = refl })
+          rw (fits, l .1, z) (record { says = refl; cells = l .2; entries = l .3; incomingCells = refl; incomingEntries = refl; sheet = refl }, sym (l .5 .cells .0), refl)
         where
           any : (x : Bool) → or x true ≡ true
           any true = refl
@@ -234,11 +247,12 @@ module _ (start file : List ℕ) (number : ℕ) (incoming current : List ℕ) (c
 
       -- both texts, or the incoming one's refusal
       pub patch-read : Bytes start → Bytes current → (count all : ℕ) → r .answer ≡ answer.Read count all → 1 ≤ number → number ≤ count
-          → cr2 ≡ length u2 / 7 → ir2 ≡ length t2 / 28 → (u2′ t2′ current′ : List ℕ) (a : Patched)
-          → CellPatched start n m f file incoming (r .slash) (r .unit) u′ t′ count (number - 1) u2 u2′ t2 t2′ current current′ a
-          → PatchIs start (course start file number incoming current cr ir cr2 ir2) u u′ t t′ u2 u2′ t2 t2′ current current′ a
+          → cr2 ≡ length u2 / 7 → ir2 ≡ length t2 / 28 → (u2′ t2′ current′ : List ℕ) (a : Counted)
+          → CellPatched start n m f file incoming (r .slash) (r .unit) u′ t′ count (number - 1) u2 u2′ t2 t2′ current current′ (a .answer)
+          → a .cells ≡ count → a .incoming ≡ cellsRead (readCell (r .slash) (r .unit) (length u2 / 7) (length t2 / 28) incoming)
+          → CountedIs start (course start file number incoming current cr ir cr2 ir2) u u′ t t′ u2 u2′ t2 t2′ current current′ a
       unfolding answerOf currentOf fileTable cellTable said
-      patch-read bytes also count all e low high p q u2′ t2′ current′ a run =
+      patch-read bytes also count all e low high p q u2′ t2′ current′ a run counted come =
           let l = read-tables start file cr ir u u′ t t′ current n m f good same r file-is count all e in
           let st = l .0 in
           let unit : r .unit ≡ st .book .unit = file-is .unit ∙ ap unitOf (l .1) in
@@ -249,18 +263,20 @@ module _ (start file : List ℕ) (number : ℕ) (incoming current : List ℕ) (c
           let x = ne-eqb number 0 (λ z. omega arith) in
           let y = le-ltb (length (st .book .log .cells)) number (omega (arith, s, high)) in
           let d : suc (number - 1) ≡ number = omega arith in
-          rw (fits, l .1, x, y, p, q) (go st (l .2) (l .3) d (readCell (st .book .slash) (st .book .unit) (length u2 / 7) (length t2 / 28) incoming) w)
+          rw (fits, l .1, x, y, p, q) (go st (l .2) (l .3) d (counted ∙ sym s) (readCell (st .book .slash) (st .book .unit) (length u2 / 7) (length t2 / 28) incoming) w
+          (come ∙ ap (λ (d : Bool). cellsRead (readCell d (r .unit) (length u2 / 7) (length t2 / 28) incoming)) (l .4)
+          ∙ ap (λ (x : ℕ). cellsRead (readCell (st .book .slash) x (length u2 / 7) (length t2 / 28) incoming)) unit))
         where
           turn : (st : At) (slash : Bool) (unit : ℕ) → slash ≡ st .book .slash → unit ≡ st .book .unit
-              → CellPatched start n m f file incoming slash unit u′ t′ count (number - 1) u2 u2′ t2 t2′ current current′ a
-              → CellPatched start n m f file incoming (st .book .slash) (st .book .unit) u′ t′ count (number - 1) u2 u2′ t2 t2′ current current′ a
+              → CellPatched start n m f file incoming slash unit u′ t′ count (number - 1) u2 u2′ t2 t2′ current current′ (a .answer)
+              → CellPatched start n m f file incoming (st .book .slash) (st .book .unit) u′ t′ count (number - 1) u2 u2′ t2 t2′ current current′ (a .answer)
           turn st slash unit p q w = rw (p, q) at w
 
-          go : (st : At) → u′ ≡ cellsLeft (fine st) u → t′ ≡ entriesLeft (fine st) t → suc (number - 1) ≡ number → (o : Res At)
+          go : (st : At) → u′ ≡ cellsLeft (fine st) u → t′ ≡ entriesLeft (fine st) t → suc (number - 1) ≡ number → a .cells ≡ length (st .book .log .cells) → (o : Res At)
               → ByIncoming start n m f file incoming (st .book .slash) (st .book .unit) u′ t′ count (number - 1) o (st .book .log .cells)
-              (st .book .log .items) u2 u2′ t2 t2′ current current′ (valuesOf (sheetAt current n m f)) a
-              → PatchIs start (byCell start file number incoming current n m f st o) u u′ t t′ u2 u2′ t2 t2′ current current′ a
-          go st c d z (bad x q) w = record { says = w .0; cells = c; entries = d; incomingCells = w .1; incomingEntries = w .2; sheet = w .3 }
-          go st c d z (fine st2) w =
+              (st .book .log .items) u2 u2′ t2 t2′ current current′ (valuesOf (sheetAt current n m f)) (a .answer) → a .incoming ≡ cellsRead o
+              → CountedIs start (byCell start file number incoming current n m f st o) u u′ t t′ u2 u2′ t2 t2′ current current′ a
+          go st c d z x (bad y q) w i = (record { says = w .0; cells = c; entries = d; incomingCells = w .1; incomingEntries = w .2; sheet = w .3 }, x, i)
+          go st c d z x (fine st2) w i =
               let k = rw z at w in
-              record { says = k .2; cells = c; entries = d; incomingCells = k .0; incomingEntries = k .1; sheet = k .3 }
+              (record { says = k .2; cells = c; entries = d; incomingCells = k .0; incomingEntries = k .1; sheet = k .3 }, x, i)

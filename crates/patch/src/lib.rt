@@ -15,6 +15,7 @@ ghost use Rattle.classes.specs.Choice.{pick};
 ghost use Rattle.seats.specs.Seats.{There, Common};
 ghost use Rattle.sheet.specs.Find.{InsGood, InstanceSearch, ArcSearch};
 ghost use Rattle.sheet.specs.Same.{sameRecords};
+ghost use Rattle.grammar.specs.Outcome.{readCell};
 ghost use Rattle.annotate.specs.Whom.{InSheet};
 ghost use Rattle.annotate.specs.Entries.{refusalFor};
 ghost use Rattle.annotate.specs.Cells.{entriesBefore};
@@ -23,6 +24,7 @@ ghost use Rattle.patch.specs.Loops.{anySet, betterOf, bothTouched, SwapR
 ghost use Rattle.patch.specs.declared.Patched.the-variants.{Refused};
 ghost use Rattle.patch.specs.Meaning.{course, PatchIs};
 ghost use Rattle.patch.specs.Seated.{ArcsSeated, StatesLoaded, SeatsThrough, backs, SwapSeated};
+ghost use Rattle.patch.specs.Counted.{cellsRead, CountedIs};
 use annotate::Whom;
 use apply::Plan;
 use arcrun::Least;
@@ -36,6 +38,13 @@ pub enum Patched {
         place: usize,
         incoming: bool,
     },
+}
+
+// The answer, with the number of cells that were read of the file and of the incoming text: none of a text that was refused or not reached.
+pub struct Counted {
+    pub answer: Patched,
+    pub cells: usize,
+    pub incoming: usize,
 }
 
 // What is swapped: the number of the outgoing cell, from 0 on, among so many; how many entries stand before it, how many go and how many come.
@@ -1038,9 +1047,20 @@ fn swap_cell<'a>(
     )
 }
 
+// A refusal, where so many cells of the file were read and none of the incoming text.
+fn refused_after(number: u8, place: usize, incoming: bool, cells: usize) -> Counted
+    ensures { λ r. ⌜ r ≡ record { answer = Refused number place incoming; cells = cells; incoming = 0 } ⌝ }
+{
+    Counted {
+        answer: refused(number, place, incoming),
+        cells: cells,
+        incoming: 0,
+    }
+}
+
 // Patches the current sheet: cell `number` of the file, from 1, is swapped for the incoming one. Each refusal has the paper's number, its
 // place and its text; after one the current sheet is as it was.
-pub fn patch<'a>(
+pub fn patch_counted<'a>(
     start: &[u8],
     file: &'a [u8],
     number: usize,
@@ -1050,25 +1070,25 @@ pub fn patch<'a>(
     entries: &mut [u64],
     cells2: &mut [u64],
     entries2: &mut [u64],
-) -> Patched
-    ensures { λ r. ⌜ PatchIs (now (start .entry)) (course (now (start .entry)) (now (file .entry)) number (now (incoming .entry)) (now (current .entry))
+) -> Counted
+    ensures { λ r. ⌜ CountedIs (now (start .entry)) (course (now (start .entry)) (now (file .entry)) number (now (incoming .entry)) (now (current .entry))
         (length (now (cells .entry)) / 7) (length (now (entries .entry)) / 28) (length (now (cells2 .entry)) / 7) (length (now (entries2 .entry)) / 28))
         (now (cells .entry)) (now (cells .exit)) (now (entries .entry)) (now (entries .exit)) (now (cells2 .entry)) (now (cells2 .exit))
         (now (entries2 .entry)) (now (entries2 .exit)) (now (current .entry)) (now (current .exit)) r ⌝ }
 {
     let check = sheetform::check_sheet(start);
     match check {
-        SheetCheck::Bad { number: k, place } => refused(10, 0, false),
+        SheetCheck::Bad { number: k, place } => refused_after(10, 0, false, 0),
         SheetCheck::Good {
             instances,
             arcs,
             first_arc,
         } => {
             if current.len() != start.len() {
-                return refused(11, 0, false);
+                return refused_after(11, 0, false, 0);
             }
             if !sheet::same_records(start, current, arcs, first_arc) {
-                return refused(18, 0, false);
+                return refused_after(18, 0, false, 0);
             }
             patch_file(
                 start,
@@ -1088,6 +1108,37 @@ pub fn patch<'a>(
     }
 }
 
+// The same, for a caller who does not ask how many cells were read.
+pub fn patch<'a>(
+    start: &[u8],
+    file: &'a [u8],
+    number: usize,
+    incoming: &'a [u8],
+    current: &mut [u8],
+    cells: &mut [u64],
+    entries: &mut [u64],
+    cells2: &mut [u64],
+    entries2: &mut [u64],
+) -> Patched
+    ensures { λ r. ⌜ PatchIs (now (start .entry)) (course (now (start .entry)) (now (file .entry)) number (now (incoming .entry)) (now (current .entry))
+        (length (now (cells .entry)) / 7) (length (now (entries .entry)) / 28) (length (now (cells2 .entry)) / 7) (length (now (entries2 .entry)) / 28))
+        (now (cells .entry)) (now (cells .exit)) (now (entries .entry)) (now (entries .exit)) (now (cells2 .entry)) (now (cells2 .exit))
+        (now (entries2 .entry)) (now (entries2 .exit)) (now (current .entry)) (now (current .exit)) r ⌝ }
+{
+    let counted = patch_counted(
+        start,
+        file,
+        number,
+        incoming,
+        current,
+        cells,
+        entries,
+        cells2,
+        entries2,
+    );
+    counted.answer
+}
+
 // The two sheets fit: reads the file and looks the cell up.
 fn patch_file<'a>(
     start: &[u8],
@@ -1102,10 +1153,10 @@ fn patch_file<'a>(
     entries: &mut [u64],
     cells2: &mut [u64],
     entries2: &mut [u64],
-) -> Patched
+) -> Counted
     requires { ⌜ (checkOf (now start) ≡ Good instances arcs first) × (length (now current) ≡ length (now start))
         × (sameRecords (now start) (now current) arcs first ≡ true) ⌝ }
-    ensures { λ r. ⌜ PatchIs (now (start .entry)) (course (now (start .entry)) (now (file .entry)) number (now (incoming .entry)) (now (current .entry))
+    ensures { λ r. ⌜ CountedIs (now (start .entry)) (course (now (start .entry)) (now (file .entry)) number (now (incoming .entry)) (now (current .entry))
         (length (now (cells .entry)) / 7) (length (now (entries .entry)) / 28) (length (now (cells2 .entry)) / 7) (length (now (entries2 .entry)) / 28))
         (now (cells .entry)) (now (cells .exit)) (now (entries .entry)) (now (entries .exit)) (now (cells2 .entry)) (now (cells2 .exit))
         (now (entries2 .entry)) (now (entries2 .exit)) (now (current .entry)) (now (current .exit)) r ⌝ }
@@ -1113,16 +1164,16 @@ fn patch_file<'a>(
     let read = reader::read_file(file, cells, entries);
     let answer = read.answer;
     match answer {
-        Answer::Refused { number: n, place } => refused(n, place, false),
+        Answer::Refused { number: n, place } => refused_after(n, place, false, 0),
         Answer::Read {
             cells: count,
             entries: all,
         } => {
             if number == 0 {
-                return refused(17, 0, false);
+                return refused_after(17, 0, false, count);
             }
             if number > count {
-                return refused(17, 0, false);
+                return refused_after(17, 0, false, count);
             }
             let plan = Plan {
                 instances: instances,
@@ -1162,17 +1213,18 @@ fn patch_cell<'a>(
     entries: &[u64],
     cells2: &mut [u64],
     entries2: &mut [u64],
-) -> Patched
+) -> Counted
     requires { ⌜ (checkOf (now start) ≡ Good (plan .instances) (plan .arcs) (plan .first)) × (length (now current) ≡ length (now start))
         × (7 * count ≤ length (now cells)) × (28 * entriesBefore (now cells) count ≤ length (now entries)) × (outgoing < count) ⌝ }
     ensures { λ r. ⌜ CellPatched (now (start .entry)) (plan .instances) (plan .arcs) (plan .first) (now (file .entry)) (now (incoming .entry)) (plan .slash) unit
         (now (cells .entry)) (now (entries .entry)) count outgoing (now (cells2 .entry)) (now (cells2 .exit)) (now (entries2 .entry)) (now (entries2 .exit))
-        (now (current .entry)) (now (current .exit)) r ⌝ }
+        (now (current .entry)) (now (current .exit)) (r .answer) × (r .cells ≡ count)
+        × (r .incoming ≡ cellsRead (readCell (plan .slash) unit (length (now (cells2 .entry)) / 7) (length (now (entries2 .entry)) / 28) (now (incoming .entry)))) ⌝ }
 {
     let read = reader::read_cell(incoming, plan.slash, unit, cells2, entries2);
     let answer = read.answer;
     match answer {
-        Answer::Refused { number, place } => refused(number, place, true),
+        Answer::Refused { number, place } => refused_after(number, place, true, count),
         Answer::Read {
             cells: one,
             entries: all,
@@ -1184,7 +1236,7 @@ fn patch_cell<'a>(
                 leaving: cells[7 * outgoing + 6] as usize,
                 coming: cells2[6] as usize,
             };
-            swap_cell(
+            let swapped = swap_cell(
                 start,
                 file,
                 incoming,
@@ -1195,7 +1247,12 @@ fn patch_cell<'a>(
                 cells2,
                 entries2,
                 current,
-            )
+            );
+            Counted {
+                answer: swapped,
+                cells: count,
+                incoming: one,
+            }
         }
     }
 }

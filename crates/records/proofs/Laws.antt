@@ -1,31 +1,32 @@
--- The slice after k turns of `fill_records`: k records of the table, and the rest as lent.
+-- A slice after k turns of a fill: the first k things of a numbered row, and the rest as lent.
 use mathlib.Core.Path.{_≡_, refl, sym, ap, _∙_}
-use mathlib.Core.List.{List, [], _∷_, _++_}
+use mathlib.Core.List.{List, _++_}
 use Prim.Native.Nat.{ℕ, zero, suc, _+_, _<_, _≤_}
 use native.Mathlib.Omega.{arith}
 use lib.ListN.{length, set, drop, length-append, length-drop}
 use lib.Seq.{drop-cons, set-at, append-snoc}
-use Rattle.grammar.specs.declared.Cell.{Cell}
-use Rattle.records.specs.Records.{noRecord, recordOf, recordsOf}
+use Rattle.records.specs.Records.{firstOf}
 
-abbrev pub zs : List Cell → List ℕ → ℕ → List Cell
-zs ys t k = recordsOf t k ++ drop k ys
+module _ {A : Type 0} (of : ℕ → A) where
+  length-first : (k : ℕ) → length (firstOf of k) ≡ k
+  unfolding firstOf
+  length-first zero = refl
+  length-first (suc k) = let h = length-first k in simp length-append (omega arith)
 
-pub length-records : (t : List ℕ) (k : ℕ) → length (recordsOf t k) ≡ k
-unfolding recordsOf
-length-records t zero = refl
-length-records t (suc k) = let h = length-records t k in simp length-append (omega arith)
+  module _ (ys : List A) where
+    abbrev pub zs : ℕ → List A
+    zs k = firstOf of k ++ drop k ys
 
-pub zs-none : (ys : List Cell) (t : List ℕ) → ys ≡ zs ys t 0
-unfolding recordsOf
-zs-none ys t = refl
+    pub zs-none : ys ≡ zs 0
+    unfolding firstOf
+    zs-none = refl
 
-pub length-zs : (ys : List Cell) (t : List ℕ) (k : ℕ) → k ≤ length ys → length (zs ys t k) ≡ length ys
-length-zs ys t k h = let e = length-records t k in simp (length-append, length-drop) (omega arith)
+    pub length-zs : (k : ℕ) → k ≤ length ys → length (zs k) ≡ length ys
+    length-zs k h = let e = length-first k in simp (length-append, length-drop) (omega arith)
 
-pub zs-more : (ys : List Cell) (t : List ℕ) (k : ℕ) → k < length ys → set (zs ys t k) k (recordOf t k) ≡ zs ys t (suc k)
-unfolding recordsOf
-zs-more ys t k h =
-    ap (λ (l : List Cell). set (recordsOf t k ++ l) k (recordOf t k)) (drop-cons ys k noRecord h)
-    ∙ set-at (recordsOf t k) _ (drop (suc k) ys) (recordOf t k) k (length-records t k)
-    ∙ sym (append-snoc (recordsOf t k) (recordOf t k) (drop (suc k) ys))
+    pub zs-more : (k : ℕ) → k < length ys → (none : A) → set (zs k) k (of k) ≡ zs (suc k)
+    unfolding firstOf
+    zs-more k h none =
+        ap (λ (l : List A). set (firstOf of k ++ l) k (of k)) (drop-cons ys k none h)
+        ∙ set-at (firstOf of k) _ (drop (suc k) ys) (of k) k (length-first k)
+        ∙ sym (append-snoc (firstOf of k) (of k) (drop (suc k) ys))

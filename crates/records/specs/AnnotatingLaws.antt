@@ -14,11 +14,12 @@ use Rattle.grammar.specs.declared.Cell.{Cell}
 use Rattle.grammar.specs.Machine.{Res, fine, bad}
 use Rattle.grammar.specs.Reading.{At}
 use Rattle.grammar.specs.Outcome.{readFile}
+use Rattle.sound.specs.Sound.{read-sound}
 use Rattle.sheetlaws.specs.Sheet.{Sheet, Decoded, decode}
 use Rattle.sheetlaws.specs.Sheet as bytes
 use Rattle.annotate.specs.declared.Counted.{Counted}
 use Rattle.annotate.specs.Meaning.{Course, unfit, unread, judged, byText, bySheet, course, cellsOut, cellCount, AnnotateIs}
-use Rattle.records.specs.Records.{recordsOf}
+use Rattle.records.specs.Records.{firstOf, recordsOf}
 use Rattle.records.specs.Reading.{roomFor}
 use Rattle.records.specs.ReadingLaws.{left-is, fit-of, part-left}
 use Rattle.records.specs.Annotating.{recordsOut, CountedIs, CountedWithin, RecordsOut}
@@ -28,12 +29,12 @@ abbrev Left : List ℕ → List Cell → Course → Type 0
 Left u rs c = recordsOf (cellsOut u c) (cellCount c) ++ drop (cellCount c) rs ≡ recordsOut c rs
 
 left-none : (u : List ℕ) (rs : List Cell) (n : ℕ) → Left u rs (unfit n)
-unfolding cellsOut cellCount recordsOut recordsOf
+unfolding cellsOut cellCount recordsOut firstOf
 left-none u rs n = refl
 
 left-text : (text : List ℕ) (cr ir : ℕ) (s : Sheet) (u : List ℕ) (rs : List Cell) (o : Res At) → readFile cr ir text ≡ o → Left u rs (byText text s o)
-unfolding cellsOut cellCount recordsOut recordsOf
-left-text text cr ir s u rs (fine st) e = left-is (fine st) text cr ir u rs e
+unfolding cellsOut cellCount recordsOut firstOf
+left-text text cr ir s u rs (fine st) e = left-is (fine st) u rs (λ st′ x. read-sound cr ir text st′ (e ∙ x))
 left-text text cr ir s u rs (bad n q) e = refl
 
 left-sheet : (start text : List ℕ) (cr ir long : ℕ) (u : List ℕ) (rs : List Cell) (d : Decoded) → Left u rs (bySheet start text long (readFile cr ir text) d)

@@ -13,7 +13,7 @@ use Rattle.classes.specs.Choice.{pick}
 use Rattle.grammar.specs.declared.Cell.{Cell}
 use Rattle.grammar.specs.Machine.{Res, fine, bad}
 use Rattle.grammar.specs.Reading.{At}
-use Rattle.grammar.specs.Outcome.{readFile}
+use Rattle.sound.specs.Sound.{SoundLog}
 use Rattle.tables.specs.Layout.{cellRows, length-cells}
 use Rattle.reader.specs.declared.Answer.the-variants as answer
 use Rattle.reader.specs.declared.FileRead.{FileRead}
@@ -21,8 +21,8 @@ use Rattle.reader.specs.Files.{FileIs, cellsLeft, answerOf}
 use Rattle.applying.specs.Rows.{cell-is}
 use Rattle.annotate.specs.Cells.{CellsAre}
 use Rattle.annotate.specs.CellList.{each-at}
-use Rattle.annotate.specs.TextLaws.{tables-left}
-use Rattle.records.specs.Records.{recordOf, recordsOf, noRecord}
+use Rattle.annotate.specs.TextLaws.{tables-sound}
+use Rattle.records.specs.Records.{firstOf, recordOf, recordsOf, noRecord}
 use Rattle.records.specs.Reading.{roomFor, countOf, recordsLeft, WithinIs, RecordsAre}
 
 -- the first k of a list, and one more
@@ -41,7 +41,7 @@ drop-front (suc n) [] y h = absurd (omega arith)
 drop-front (suc n) (a ∷ x) y h = drop-front n x y (omega arith)
 
 rows-take : (t : List ℕ) (n : ℕ) (cs : List Cell) → CellsAre t n cs → (k : ℕ) → k ≤ n → recordsOf t k ≡ take k cs
-unfolding recordsOf
+unfolding firstOf
 rows-take t n cs a zero h = refl
 rows-take t n cs a (suc k) h =
     let l : k < length cs = (let z = a .0 in omega arith) in
@@ -51,21 +51,25 @@ rows-take t n cs a (suc k) h =
 rows-are : (t : List ℕ) (cs : List Cell) → CellsAre t (length cs) cs → recordsOf t (length cs) ≡ cs
 rows-are t cs a = rows-take t (length cs) cs a (length cs) (omega arith) ∙ take-whole cs
 
--- what the fill leaves, of a text that was read and of a refused one
-pub left-is : (o : Res At) (s : List ℕ) (cr ir : ℕ) (u : List ℕ) (rs : List Cell) → readFile cr ir s ≡ o
-    → recordsOf (cellsLeft o u) (countOf (answerOf o)) ++ drop (countOf (answerOf o)) rs ≡ recordsLeft o rs
-unfolding recordsOf
-left-is (fine st) s cr ir u rs e =
-    let cs = st .book .log .cells in
-    ap (λ r. r ++ drop (length cs) rs) (rows-are (cellsLeft (fine st) u) cs (tables-left st u [] cr ir s e .cells))
-left-is (bad n q) s cr ir u rs e = refl
+-- what stands in the log of a text that was read is in range: Sound has it of a file and of a patch's cell
+abbrev pub Sounds : Res At → Type 0
+Sounds o = (st : At) → o ≡ fine st → SoundLog (st .book .log)
 
-pub records-are : (s : List ℕ) (cr ir : ℕ) (u u′ t t′ : List ℕ) (rs rs′ : List Cell) (r : FileRead) (n : ℕ) → FileIs (readFile cr ir s) u u′ t t′ r
-    → n ≡ countOf (r .answer) → rs′ ≡ recordsOf u′ n ++ drop n rs → RecordsAre (readFile cr ir s) u u′ t t′ rs rs′ r
-records-are s cr ir u u′ t t′ rs rs′ r n f e g =
-    let m : n ≡ countOf (answerOf (readFile cr ir s)) = e ∙ ap countOf (f .says) in
-    let k = countOf (answerOf (readFile cr ir s)) in
-    (f, g ∙ ap (λ j. recordsOf u′ j ++ drop j rs) m ∙ ap (λ v. recordsOf v k ++ drop k rs) (f .cells) ∙ left-is (readFile cr ir s) s cr ir u rs refl)
+-- what the fill leaves, of a text that was read and of a refused one
+pub left-is : (o : Res At) (u : List ℕ) (rs : List Cell) → Sounds o
+    → recordsOf (cellsLeft o u) (countOf (answerOf o)) ++ drop (countOf (answerOf o)) rs ≡ recordsLeft o rs
+unfolding firstOf
+left-is (fine st) u rs sound =
+    let cs = st .book .log .cells in
+    ap (λ r. r ++ drop (length cs) rs) (rows-are (cellsLeft (fine st) u) cs (tables-sound st u [] (sound st refl) .cells))
+left-is (bad n q) u rs sound = refl
+
+pub records-are : (o : Res At) (u u′ t t′ : List ℕ) (rs rs′ : List Cell) (r : FileRead) (n : ℕ) → Sounds o → FileIs o u u′ t t′ r
+    → n ≡ countOf (r .answer) → rs′ ≡ recordsOf u′ n ++ drop n rs → RecordsAre o u u′ t t′ rs rs′ r
+records-are o u u′ t t′ rs rs′ r n sound f e g =
+    let m : n ≡ countOf (answerOf o) = e ∙ ap countOf (f .says) in
+    let k = countOf (answerOf o) in
+    (f, g ∙ ap (λ j. recordsOf u′ j ++ drop j rs) m ∙ ap (λ v. recordsOf v k ++ drop k rs) (f .cells) ∙ left-is o u rs sound)
 
 -- a table is as long as it was, so it has a row for each cell
 pub fit-of : (o : Res At) (u : List ℕ) → length (cellsLeft o u) ≡ length u → 7 * countOf (answerOf o) ≤ length u
@@ -91,23 +95,24 @@ part-left (fine st) u m h e =
     ∙ ap (λ v. drop (length (cellRows cs)) v) (take-append-drop m u))
 part-left (bad n q) u m h e = take-append-drop m u
 
-pub within-part : (s : List ℕ) (ir room : ℕ) (u p t t′ : List ℕ) (r : FileRead) → room < length u / 7
-    → FileIs (readFile (length (take (7 * room) u) / 7) ir s) (take (7 * room) u) p t t′ r → length p ≡ length (take (7 * room) u)
-    → WithinIs (readFile (roomFor (length u) room) ir s) room u (p ++ drop (7 * room) u) t t′ r
-within-part s ir room u p t t′ r h f e =
+-- a reading into the part that has a record for each row, or into the whole: `read` is the reading by its room for cells
+pub within-part : (read : ℕ → Res At) (room : ℕ) (u p t t′ : List ℕ) (r : FileRead) → room < length u / 7
+    → FileIs (read (length (take (7 * room) u) / 7)) (take (7 * room) u) p t t′ r → length p ≡ length (take (7 * room) u)
+    → WithinIs (read (roomFor (length u) room)) room u (p ++ drop (7 * room) u) t t′ r
+within-part read room u p t t′ r h f e =
     let inside : 7 * room ≤ length u = omega arith in
     let lt : length (take (7 * room) u) ≡ 7 * room = length-take-le (7 * room) u inside in
     let n : length (take (7 * room) u) / 7 ≡ room = omega (arith, lt) in
-    let g : FileIs (readFile room ir s) (take (7 * room) u) p t t′ r = rw n at f in
+    let g : FileIs (read room) (take (7 * room) u) p t t′ r = rw n at f in
     let k : roomFor (length u) room ≡ room = rw (lt-ltb room (length u / 7) h) in
-    let fits = rows-fit (readFile room ir s) (take (7 * room) u) p t t′ r g e in
-    let left : p ++ drop (7 * room) u ≡ cellsLeft (readFile room ir s) u =
-    ap (λ v. v ++ drop (7 * room) u) (g .cells) ∙ part-left (readFile room ir s) u (7 * room) inside (ap length (sym (g .cells)) ∙ e) in
+    let fits = rows-fit (read room) (take (7 * room) u) p t t′ r g e in
+    let left : p ++ drop (7 * room) u ≡ cellsLeft (read room) u =
+    ap (λ v. v ++ drop (7 * room) u) (g .cells) ∙ part-left (read room) u (7 * room) inside (ap length (sym (g .cells)) ∙ e) in
     rw k (record { says = g .says; cells = left; entries = g .entries; slash = g .slash; unit = g .unit; texts = g .texts }, omega (arith, fits, lt))
 
-pub within-whole : (s : List ℕ) (ir room : ℕ) (u u′ t t′ : List ℕ) (r : FileRead) → length u / 7 ≤ room
-    → FileIs (readFile (length u / 7) ir s) u u′ t t′ r → length u′ ≡ length u → WithinIs (readFile (roomFor (length u) room) ir s) room u u′ t t′ r
-within-whole s ir room u u′ t t′ r h f e =
+pub within-whole : (read : ℕ → Res At) (room : ℕ) (u u′ t t′ : List ℕ) (r : FileRead) → length u / 7 ≤ room
+    → FileIs (read (length u / 7)) u u′ t t′ r → length u′ ≡ length u → WithinIs (read (roomFor (length u) room)) room u u′ t t′ r
+within-whole read room u u′ t t′ r h f e =
     let k : roomFor (length u) room ≡ length u / 7 = rw (le-ltb room (length u / 7) h) in
-    let fits = rows-fit (readFile (length u / 7) ir s) u u′ t t′ r f e in
+    let fits = rows-fit (read (length u / 7)) u u′ t t′ r f e in
     rw k (f, omega (arith, fits, h))

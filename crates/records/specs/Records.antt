@@ -13,7 +13,11 @@ noRecord = record { place = 0; typefrom = 0; typeto = 0; sort = 0; pathfrom = 0;
 abbrev pub recordOf : List ℕ → ℕ → Cell
 recordOf t k = cellAt t (7 * k)
 
--- those of the first n rows
-unfoldable pub recordsOf : List ℕ → ℕ → List Cell
-recordsOf t zero = []
-recordsOf t (suc n) = recordsOf t n ++ recordOf t n ∷ []
+-- the first n of a numbered row of things
+unfoldable pub firstOf : {A : Type 0} → (ℕ → A) → ℕ → List A
+firstOf of zero = []
+firstOf of (suc n) = firstOf of n ++ of n ∷ []
+
+-- the records of the first n rows
+abbrev pub recordsOf : List ℕ → ℕ → List Cell
+recordsOf t n = firstOf (recordOf t) n

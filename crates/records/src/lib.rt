@@ -3,7 +3,7 @@ ghost use mathlib.Core.Path.{_≡_};
 ghost use mathlib.Core.List.{List, _++_};
 ghost use Prim.Native.Nat.{ℕ, _+_, _*_, _/_, _≤_, _<_};
 ghost use lib.ListN.{length, getD, set, drop};
-ghost use Rattle.grammar.specs.Outcome.{readFile};
+ghost use Rattle.grammar.specs.Outcome.{readFile, readCell};
 ghost use Rattle.annotate.specs.Meaning.{course};
 ghost use Rattle.records.specs.Records.{noRecord, recordOf, recordsOf};
 ghost use Rattle.records.specs.Reading.{roomFor, countOf, WithinIs, RecordsAre};
@@ -98,6 +98,44 @@ pub fn read_file_records(
 {
     let room = records.len();
     let read = read_within(text, table, entries, room);
+    let n = cells_read(read);
+    fill_records(records, table, n);
+    read
+}
+
+// The core's reader of one cell, where so many cells have a record, as read_within.
+fn read_cell_within(
+    text: &[u8],
+    slash: bool,
+    unit: u8,
+    table: &mut [u64],
+    entries: &mut [u64],
+    room: usize,
+) -> FileRead
+    ensures { λ r. ⌜ WithinIs (readCell slash unit (roomFor (length (now (table .entry))) room) (length (now (entries .entry)) / 28) (now (text .entry))) room
+        (now (table .entry)) (now (table .exit)) (now (entries .entry)) (now (entries .exit)) r ⌝ }
+{
+    if room < table.len() / 7 {
+        return reader::read_cell(text, slash, unit, &mut table[..7 * room], entries);
+    }
+    reader::read_cell(text, slash, unit, table, entries)
+}
+
+// Reads a text that is one cell as reader::read_cell does, and the cell into a record too, with room and what is left as read_file_records has it.
+pub fn read_cell_records(
+    text: &[u8],
+    slash: bool,
+    unit: u8,
+    table: &mut [u64],
+    entries: &mut [u64],
+    records: &mut [Cell],
+) -> FileRead
+    ensures { λ r. ⌜ RecordsAre (readCell slash unit (roomFor (length (now (table .entry))) (length (now (records .entry))))
+        (length (now (entries .entry)) / 28) (now (text .entry))) (now (table .entry)) (now (table .exit)) (now (entries .entry)) (now (entries .exit))
+        (now (records .entry)) (now (records .exit)) r ⌝ }
+{
+    let room = records.len();
+    let read = read_cell_within(text, slash, unit, table, entries, room);
     let n = cells_read(read);
     fill_records(records, table, n);
     read

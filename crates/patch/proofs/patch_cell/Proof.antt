@@ -7,7 +7,7 @@ use lib.ListN.{getD}
 use denote.Ref.{now}
 use borrow.Author.Needs.{needs}
 use Rattle.annotate.specs.Cells.{entries-within}
-use Rattle.patch.specs.PatchLaws.{cell-unread, cell-ready, cell-read}
+use Rattle.patch.specs.PatchLaws.{cell-unread, none-come, cell-ready, cell-read, one-comes}
 use Rattle.patch.proofs.patch_cell.Statement.{statement}
 use Rattle.patch.proofs.patch_cell.Tie as tie
 
@@ -17,8 +17,8 @@ read-cell-requires c κs = search needs
 enum-known-answer : tie.Need-enum-known-answer
 enum-known-answer c = search needs
 
-refused-requires : tie.Need-refused-requires
-refused-requires c κs = search needs
+refused-after-requires : tie.Need-refused-after-requires
+refused-after-requires c κs = search needs
 
 enum-known-answer-2 : tie.Need-enum-known-answer-2
 enum-known-answer-2 c = search needs
@@ -31,32 +31,32 @@ count-entries-requires c κs =
     let w = entries-within (now (args .cells)) (args .outgoing) (args .count) (pre .4) in
     (omega (arith, pre .2, pre .4), omega (arith, w, pre .3, good .1 .1 .1 .1 .1 .1 .1 .1 .1 .0))
 
-mul-t26 : tie.Need-mul-t26
-mul-t26 c =
+mul-t27 : tie.Need-mul-t27
+mul-t27 c =
     let pre = c .before .before .before .before .before .before .before .before .before .before .before .before .before .before .before .before .before .before .before .pre in
     let good = c .before .before .before .before .before .before .before .before .before .before .before .before .before .before .before .before .before .before .before .good in
     omega (arith, pre .2, pre .4, good .1 .1 .1 .1 .1 .1 .1 .0)
 
-add-t27 : tie.Need-add-t27
-add-t27 c =
+add-t28 : tie.Need-add-t28
+add-t28 c =
     let pre = c .before .before .before .before .before .before .before .before .before .before .before .before .before .before .before .before .before .before .before .pre in
     let good = c .before .before .before .before .before .before .before .before .before .before .before .before .before .before .before .before .before .before .before .good in
     omega (arith, pre .2, pre .4, good .1 .1 .1 .1 .1 .1 .1 .0)
 
-mul-t28 : tie.Need-mul-t28
-mul-t28 c =
+mul-t29 : tie.Need-mul-t29
+mul-t29 c =
     let pre = c .before .before .before .before .before .before .before .before .before .before .before .before .before .before .before .before .before .before .before .pre in
     let good = c .before .before .before .before .before .before .before .before .before .before .before .before .before .before .before .before .before .before .before .good in
     omega (arith, pre .2, pre .4, good .1 .1 .1 .1 .1 .1 .1 .0)
 
-shared-slice-read-t30 : tie.Need-shared-slice-read-t30
-shared-slice-read-t30 c =
+shared-slice-read-t31 : tie.Need-shared-slice-read-t31
+shared-slice-read-t31 c =
     let pre = c .before .before .before .before .before .before .before .before .before .before .before .before .before .before .before .before .before .before .before .before .pre in
     let good = c .before .before .before .before .before .before .before .before .before .before .before .before .before .before .before .before .before .before .before .before .good in
     omega (arith, pre .2, pre .4, good .1 .1 .1 .1 .1 .1 .1 .0)
 
-slice-read-t33 : tie.Need-slice-read-t33
-slice-read-t33 c =
+slice-read-t34 : tie.Need-slice-read-t34
+slice-read-t34 c =
     let args = c .before .before .before .before .before .before .before .before .before .before .before .before .before .before .before .before .before .before .before .before .before .args in
     let read-cell = c .before .before .before .before .before .before .before .before .before .before .read-cell in
     let answer2 = c .before .before .before .before .answer2 in
@@ -109,14 +109,21 @@ same-length-2 c = search needs
 
 returns : tie.Need-returns
 returns c =
-    let refused = c .refused in
+    let refused-after = c .refused-after in
     let args = c .before .before .before .before .before .before .before .before .before .before .before .before .before .before .before .before .before .before .before .args in
     let read-cell = c .before .before .before .before .before .before .before .before .read-cell in
     let answer = c .before .before .answer in
-    rw (refused .ensures) (cell-unread (now (args .start)) (args .plan .instances) (args .plan .arcs) (args .plan .first) (now (args .file))
-    (now (args .incoming)) (args .plan .slash) (args .unit) (now (args .cells)) (now (args .entries)) (args .count) (args .outgoing)
-    (now (args .cells2)) (read-cell .last .1 .1 .1 .0) (now (args .entries2)) (read-cell .last .1 .1 .1 .1 .0) (read-cell .result)
-    (read-cell .ensures) (answer .given .0 .0) (answer .given .0 .1 .0) (answer .given .1) (now (args .current)))
+    rw (refused-after .ensures) (
+      cell-unread (now (args .start)) (args .plan .instances) (args .plan .arcs) (args .plan .first) (now (args .file))
+          (now (args .incoming)) (args .plan .slash) (args .unit) (now (args .cells)) (now (args .entries)) (args .count) (args .outgoing)
+          (now (args .cells2)) (read-cell .last .1 .1 .1 .0) (now (args .entries2)) (read-cell .last .1 .1 .1 .1 .0) (read-cell .result)
+          (read-cell .ensures) (answer .given .0 .0) (answer .given .0 .1 .0) (answer .given .1) (now (args .current)),
+      refl,
+      none-come (now (args .start)) (args .plan .instances) (args .plan .arcs) (args .plan .first) (now (args .file))
+          (now (args .incoming)) (args .plan .slash) (args .unit) (now (args .cells)) (now (args .entries)) (args .count) (args .outgoing)
+          (now (args .cells2)) (read-cell .last .1 .1 .1 .0) (now (args .entries2)) (read-cell .last .1 .1 .1 .1 .0) (read-cell .result)
+          (read-cell .ensures) (answer .given .0 .0) (answer .given .0 .1 .0) (answer .given .1),
+    )
 
 same-length-3 : tie.Need-same-length-3
 same-length-3 c = search needs
@@ -134,18 +141,24 @@ returns-2 c =
     let answer2 = c .before .before .before .before .before .before .before .before .before .before .answer2 in
     let pre = c .before .before .before .before .before .before .before .before .before .before .before .before .before .before .before .before .before .before .before .before .before .before .before .before .before .before .before .pre in
     let count-entries = c .before .before .before .before .before .before .before .before .count-entries in
-    let swap-cell = c .before .before .swap-cell in
-    cell-read (now (args .start)) (args .plan .instances) (args .plan .arcs) (args .plan .first) (now (args .file)) (now (args .incoming))
-    (args .plan .slash) (args .unit) (now (args .cells)) (now (args .entries)) (args .count) (args .outgoing) (now (args .cells2))
-    (read-cell .last .1 .1 .1 .0) (now (args .entries2)) (read-cell .last .1 .1 .1 .1 .0) (read-cell .result) (read-cell .ensures)
-    (answer2 .given .0 .0) (answer2 .given .0 .1 .0) (answer2 .given .1) (pre .4) (record {
-      outgoing = args .outgoing;
-      cells = args .count;
-      before = count-entries .result;
-      leaving = getD (now (args .cells)) (7 * args .outgoing + 6) 0;
-      coming = getD (read-cell .last .1 .1 .1 .0) 6
-          0;
-    }) refl refl (now (args .current)) (swap-cell .last .1 .1 .1 .1 .1 .1 .1 .1 .1 .0) (swap-cell .result) (swap-cell .ensures)
+    let swap-cell = c .before .before .swap-cell in (
+      cell-read (now (args .start)) (args .plan .instances) (args .plan .arcs) (args .plan .first) (now (args .file)) (now (args .incoming))
+          (args .plan .slash) (args .unit) (now (args .cells)) (now (args .entries)) (args .count) (args .outgoing) (now (args .cells2))
+          (read-cell .last .1 .1 .1 .0) (now (args .entries2)) (read-cell .last .1 .1 .1 .1 .0) (read-cell .result) (read-cell .ensures)
+          (answer2 .given .0 .0) (answer2 .given .0 .1 .0) (answer2 .given .1) (pre .4) (record {
+            outgoing = args .outgoing;
+            cells = args .count;
+            before = count-entries .result;
+            leaving = getD (now (args .cells)) (7 * args .outgoing + 6) 0;
+            coming = getD (read-cell .last .1 .1 .1 .0) 6
+                0;
+          }) refl refl (now (args .current)) (swap-cell .last .1 .1 .1 .1 .1 .1 .1 .1 .1 .0) (swap-cell .result) (swap-cell .ensures),
+      refl,
+      one-comes (now (args .start)) (args .plan .instances) (args .plan .arcs) (args .plan .first) (now (args .file))
+          (now (args .incoming)) (args .plan .slash) (args .unit) (now (args .cells)) (now (args .entries)) (args .count) (args .outgoing)
+          (now (args .cells2)) (read-cell .last .1 .1 .1 .0) (now (args .entries2)) (read-cell .last .1 .1 .1 .1 .0) (read-cell .result)
+          (read-cell .ensures) (answer2 .given .0 .0) (answer2 .given .0 .1 .0) (answer2 .given .1),
+    )
 
 pub patch-cell-spec : {M : Type 1} → statement M
 patch-cell-spec =
@@ -153,14 +166,14 @@ patch-cell-spec =
     (tie.spec
     read-cell-requires
     enum-known-answer
-    refused-requires
+    refused-after-requires
     enum-known-answer-2
     count-entries-requires
-    mul-t26
-    add-t27
-    mul-t28
-    shared-slice-read-t30
-    slice-read-t33
+    mul-t27
+    add-t28
+    mul-t29
+    shared-slice-read-t31
+    slice-read-t34
     swap-cell-requires
     same-length
     same-length-2

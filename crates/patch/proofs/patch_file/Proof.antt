@@ -18,14 +18,14 @@ read-file-requires c κs = search needs
 enum-known-answer : tie.Need-enum-known-answer
 enum-known-answer c = search needs
 
-refused-requires : tie.Need-refused-requires
-refused-requires c κs = search needs
+refused-after-requires : tie.Need-refused-after-requires
+refused-after-requires c κs = search needs
 
 enum-known-answer-2 : tie.Need-enum-known-answer-2
 enum-known-answer-2 c = search needs
 
-refused-requires-2 : tie.Need-refused-requires-2
-refused-requires-2 c κs = search needs
+refused-after-requires-2 : tie.Need-refused-after-requires-2
+refused-after-requires-2 c κs = search needs
 
 same-length : tie.Need-same-length
 same-length c = search needs
@@ -35,20 +35,20 @@ same-length-2 c = search needs
 
 returns : tie.Need-returns
 returns c =
-    let refused2 = c .refused2 in
+    let refused-after2 = c .refused-after2 in
     let args = c .before .before .before .before .before .before .before .before .before .before .before .before .before .before .before .before .before .before .before .before .args in
     let pre = c .before .before .before .before .before .before .before .before .before .before .before .before .before .before .before .before .before .before .before .before .pre in
     let read-file = c .before .before .before .before .before .before .before .before .before .read-file in
     let answer2 = c .before .before .before .answer2 in
     let if1 = c .before .if1 in
-    rw (refused2 .ensures) (patch-number (now (args .start)) (now (args .file)) (args .number) (now (args .incoming)) (now (args .current))
+    rw (refused-after2 .ensures) (patch-number (now (args .start)) (now (args .file)) (args .number) (now (args .incoming)) (now (args .current))
     (length (now (args .cells)) / 7) (length (now (args .entries)) / 28) (length (now (args .cells2)) / 7) (length (now (args .entries2)) / 28)
     (now (args .cells)) (now (args .entries)) (now (args .cells2)) (now (args .entries2)) (args .instances) (args .arcs) (args .first) (pre .0)
     (pre .1) (pre .2) (read-file .last .1 .0) (read-file .last .1 .1 .0) (read-file .result) (read-file .ensures) (answer2 .given .0 .0)
     (answer2 .given .0 .1 .0) (answer2 .given .1) (inl (if1 .taken)))
 
-refused-requires-3 : tie.Need-refused-requires-3
-refused-requires-3 c κs = search needs
+refused-after-requires-3 : tie.Need-refused-after-requires-3
+refused-after-requires-3 c κs = search needs
 
 same-length-3 : tie.Need-same-length-3
 same-length-3 c = search needs
@@ -58,13 +58,13 @@ same-length-4 c = search needs
 
 returns-2 : tie.Need-returns-2
 returns-2 c =
-    let refused3 = c .refused3 in
+    let refused-after3 = c .refused-after3 in
     let args = c .before .before .before .before .before .before .before .before .before .before .before .before .before .before .before .before .before .before .before .before .before .args in
     let pre = c .before .before .before .before .before .before .before .before .before .before .before .before .before .before .before .before .before .before .before .before .before .pre in
     let read-file = c .before .before .before .before .before .before .before .before .before .before .read-file in
     let answer2 = c .before .before .before .before .answer2 in
     let if2 = c .before .if2 in
-    rw (refused3 .ensures) (patch-number (now (args .start)) (now (args .file)) (args .number) (now (args .incoming)) (now (args .current))
+    rw (refused-after3 .ensures) (patch-number (now (args .start)) (now (args .file)) (args .number) (now (args .incoming)) (now (args .current))
     (length (now (args .cells)) / 7) (length (now (args .entries)) / 28) (length (now (args .cells2)) / 7) (length (now (args .entries2)) / 28)
     (now (args .cells)) (now (args .entries)) (now (args .cells2)) (now (args .entries2)) (args .instances) (args .arcs) (args .first) (pre .0)
     (pre .1) (pre .2) (read-file .last .1 .0) (read-file .last .1 .1 .0) (read-file .result) (read-file .ensures) (answer2 .given .0 .0)
@@ -95,12 +95,12 @@ same-length-6 c = search needs
 
 returns-3 : tie.Need-returns-3
 returns-3 c =
-    let refused = c .refused in
+    let refused-after = c .refused-after in
     let args = c .before .before .before .before .before .before .before .before .before .before .before .before .before .before .before .before .before .before .before .args in
     let pre = c .before .before .before .before .before .before .before .before .before .before .before .before .before .before .before .before .before .before .before .pre in
     let read-file = c .before .before .before .before .before .before .before .before .read-file in
     let answer = c .before .before .answer in
-    rw (refused .ensures) (patch-unread (now (args .start)) (now (args .file)) (args .number) (now (args .incoming)) (now (args .current))
+    rw (refused-after .ensures) (patch-unread (now (args .start)) (now (args .file)) (args .number) (now (args .incoming)) (now (args .current))
     (length (now (args .cells)) / 7) (length (now (args .entries)) / 28) (length (now (args .cells2)) / 7) (length (now (args .entries2)) / 28)
     (now (args .cells)) (now (args .entries)) (now (args .cells2)) (now (args .entries2)) (args .instances) (args .arcs) (args .first) (pre .0)
     (pre .1) (pre .2) (read-file .last .1 .0) (read-file .last .1 .1 .0) (read-file .result) (read-file .ensures) (answer .given .0 .0)
@@ -138,7 +138,7 @@ returns-4 c =
     (pre .1) (pre .2) (read-file .last .1 .0) (read-file .last .1 .1 .0) (read-file .result) (read-file .ensures)
     (λ i. shared-slice-known .given i .fits) (λ i. slice-known .given i .fits) (answer2 .given .0 .0) (answer2 .given .0 .1 .0)
     (answer2 .given .1) (omega (arith, if1 .left)) (omega (arith, if2 .left)) refl refl (patch-cell .last .1 .1 .1 .1 .1 .1 .1 .1 .1 .1 .0)
-    (patch-cell .last .1 .1 .1 .1 .1 .1 .1 .1 .1 .1 .1 .0) (patch-cell .last .1 .1 .1 .1 .0) (patch-cell .result) (patch-cell .ensures)
+    (patch-cell .last .1 .1 .1 .1 .1 .1 .1 .1 .1 .1 .1 .0) (patch-cell .last .1 .1 .1 .1 .0) (patch-cell .result) (patch-cell .ensures .0) (patch-cell .ensures .1) (patch-cell .ensures .2)
 
 pub patch-file-spec : {M : Type 1} → statement M
 patch-file-spec =
@@ -146,13 +146,13 @@ patch-file-spec =
     (tie.spec
     read-file-requires
     enum-known-answer
-    refused-requires
+    refused-after-requires
     enum-known-answer-2
-    refused-requires-2
+    refused-after-requires-2
     same-length
     same-length-2
     returns
-    refused-requires-3
+    refused-after-requires-3
     same-length-3
     same-length-4
     returns-2

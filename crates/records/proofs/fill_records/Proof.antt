@@ -1,5 +1,5 @@
 -- `records::fill_records` meets its contract: a walk of its MIR, by hand, with a loop. A turn calls `row_at`, opens the borrow, stores the record at k, and closes the borrow.
--- Between turns the borrow is closed at `zs ys t k`: k records of the table, and the rest as lent.
+-- Between turns the borrow is closed at `zs (recordOf t) ys k`: k records of the table, and the rest as lent.
 -- Assumes nothing.
 use mathlib.Core.Path.{_≡_, refl, sym, ap, subst, _∙_}
 use Prim.Native.Nat.{ℕ, suc, zero, _<_, _≤_, _^_, _*_, _+_}
@@ -95,7 +95,7 @@ module _ {M : Type 1} (𝓤 : URA M) (H : Heap 𝓤) (A : Atoms 𝓤) (W : Given
 
   -- the list after k turns, and the borrow at a list
   abbrev zs-at : ℕ → List Cell
-  zs-at k = zs ys (t .now) k
+  zs-at k = zs (recordOf (t .now)) ys k
 
   abbrev s : List Cell → RefT (List Cell)
   s w = record { ptr = (b, o); name = γ; now = w }
@@ -142,7 +142,7 @@ module _ {M : Type 1} (𝓤 : URA M) (H : Heap 𝓤) (A : Atoms 𝓤) (W : Given
 
   exits : ent 𝓤 (⋆ 𝓤 H A (‵ (Obs (zs-at n)) ∷ ‵ (Bor (zs-at n)) ∷ ‵ (flft κ q) ∷ (‵ (flft κ′ q′) ⊛ ‵ ftrue) ∷ ‵ Town ∷ [])) (Post vunit)
   exits =
-      let e : length (zs-at n) ≡ length ys = length-zs ys (t .now) n (l .0) in
+      let e : length (zs-at n) ≡ length ys = length-zs (recordOf (t .now)) ys n (l .0) in
       qed W (‵ (Obs (zs-at n)) ∷ ‵ (Bor (zs-at n)) ∷ ‵ (flft κ q) ∷ (‵ (flft κ′ q′) ⊛ ‵ ftrue) ∷ ‵ Town ∷ []) ∵
       suffices ! _ (ends-at 𝓤 H A f.ended stayed (f.clauses 𝓤 H A mem run) W ((κs, (q, (q′, tt)), tt, x, at), tt) vunit tt (zs-at n, (tt, (tt, tt))) (e, (tt, (tt, tt)))) $ says ! refl $
       move ! (2 ∷ 3 ∷ []) $ join ! $ frame ! $
@@ -193,7 +193,7 @@ module _ {M : Type 1} (𝓤 : URA M) (H : Heap 𝓤) (A : Atoms 𝓤) (W : Given
     unfolding afterTurn
     more k X small next =
         let inside : k < length ys = omega (arith, l .0) in
-        let long : length (zs-at k) ≡ length ys = length-zs ys (t .now) k (omega arith) in
+        let long : length (zs-at k) ≡ length ys = length-zs (recordOf (t .now)) ys k (omega arith) in
         let within : k < length (zs-at k) = omega arith in
         let next-fits : k + 1 < 2 ^ 64 = omega arith in
         qed W (At k) ∵ exec ! C Λ En turn (anyQ (afterTurn 𝓤 H X Left)) $
@@ -221,8 +221,8 @@ module _ {M : Type 1} (𝓤 : URA M) (H : Heap 𝓤) (A : Atoms 𝓤) (W : Given
         -- [obs; the borrow; the token of κ; the token of κ′; t's; _4; _5; _6; _7; _8; _1; _2; _3; _0; …]
         assigns-last ! (bin ! (load ! (from ! (stop !)) (look ! 5 refl)) (lit ! tt) (record { fits = next-fits })) (from ! (stop !)) (store ! 5 refl (tt, record { fits = next-fits })) $
         forget ! 6 refl $ forget ! 7 refl $ forget ! 8 refl $ forget ! 9 refl $
-        rewrite ! 0 (λ (w : List Cell). ‵ (Obs w)) (ap (set (zs-at k) k) e ∙ zs-more ys (t .now) k inside) refl $
-        rewrite ! 1 (λ (w : List Cell). ‵ (Bor w)) (ap (set (zs-at k) k) e ∙ zs-more ys (t .now) k inside) refl $
+        rewrite ! 0 (λ (w : List Cell). ‵ (Obs w)) (ap (set (zs-at k) k) e ∙ zs-more (recordOf (t .now)) ys k inside noRecord) refl $
+        rewrite ! 1 (λ (w : List Cell). ‵ (Bor w)) (ap (set (zs-at k) k) e ∙ zs-more (recordOf (t .now)) ys k inside noRecord) refl $
         rewrite ! 5 (λ (j : ℕ). ‵ (fat fullShare word l₄ 0 (vint w64 j))) (add-one k) refl $ by ! next)))))
 
     -- the turn that leaves the loop, and the rest of the body
@@ -273,7 +273,7 @@ module _ {M : Type 1} (𝓤 : URA M) (H : Heap 𝓤) (A : Atoms 𝓤) (W : Given
       assigns ! (of-opd ! (lit ! tt)) (from ! (stop !)) (init ! 8 refl (tt, record { fits = lit< tt })) $
       move ! (19 ∷ []) $ fsplit ! $ fsplit ! $ drop ! $ fsplit ! $ move ! (2 ∷ []) $ fsplit ! $ move ! (22 ∷ []) $ split ! $
       -- [the token of κ; the token of κ′; t's; n's; obs; the borrow; _8; …; _0; …]
-      rewrite ! 4 (λ (w : List Cell). ‵ (Obs w)) (zs-none ys (t .now)) refl $ rewrite ! 5 (λ (w : List Cell). ‵ (Bor w)) (zs-none ys (t .now)) refl $
+      rewrite ! 4 (λ (w : List Cell). ‵ (Obs w)) (zs-none (recordOf (t .now)) ys) refl $ rewrite ! 5 (λ (w : List Cell). ‵ (Bor w)) (zs-none (recordOf (t .now)) ys) refl $
       keep ! (4 ∷ 5 ∷ 0 ∷ 1 ∷ 2 ∷ 14 ∷ 12 ∷ 10 ∷ 8 ∷ 6 ∷ 20 ∷ 18 ∷ 16 ∷ 22 ∷ 23 ∷ 21 ∷ 19 ∷ 17 ∷ 15 ∷ 13 ∷ 11 ∷ 9 ∷ 7 ∷ []) $ by ! (loops 𝓣 known l₀ l₁ l₂ l₃ l₄ l₅ l₆ l₇ l₈))))))))))
 
 module _ {M : Type 1} (𝓤 : URA M) (H : Heap 𝓤) (A : Atoms 𝓤) (W : Given 𝓤 H A) (mem : Memory → SProp 𝓤) (run : Routine → Fun 𝓤) where

@@ -44,6 +44,7 @@ use denote.Exit.{yes}
 use Rattle.grammar.specs.declared.Cell.{Cell}
 use Rattle.grammar.specs.Outcome.{readFile}
 use Rattle.grammar.proofs.Cell as T
+use Rattle.sound.specs.Sound.{read-sound}
 use Rattle.reader.specs.declared.FileRead.{FileRead}
 use Rattle.reader.proofs.FileRead as F
 use Rattle.reader.proofs.FileRead.Laws as F′
@@ -264,7 +265,7 @@ module _ {M : Type 1} (𝓤 : URA M) (H : Heap 𝓤) (A : Atoms 𝓤) (W : Given
         move ! (43 ∷ 44 ∷ []) $ free1 ! $ move ! (41 ∷ 42 ∷ []) $ free1 ! $ move ! (39 ∷ 40 ∷ []) $ free1 ! $ move ! (37 ∷ 38 ∷ []) $ free1 ! $ move ! (35 ∷ 36 ∷ []) $ free1 ! $ move ! (33 ∷ 34 ∷ []) $ free1 ! $
         move ! (31 ∷ 32 ∷ []) $ free1 ! $ move ! (29 ∷ 30 ∷ []) $ free1 ! $ move ! (27 ∷ 28 ∷ []) $ free1 ! $ move ! (25 ∷ 26 ∷ []) $ free1 ! $ move ! (23 ∷ 24 ∷ []) $ free1 ! $ move ! (21 ∷ 22 ∷ []) $ free1 ! $
         move ! (19 ∷ 20 ∷ []) $ free1 ! $ move ! (17 ∷ 18 ∷ []) $ free1 ! $ move ! (15 ∷ 16 ∷ []) $ free1 ! $ move ! (13 ∷ 14 ∷ []) $ free1 ! $ move ! (11 ∷ 12 ∷ []) $ free1 ! $ free0 ! $
-        keep ! (6 ∷ 1 ∷ 5 ∷ 4 ∷ 7 ∷ 2 ∷ []) $ by ! (exits u r (ws .1 .0) (ws .1 .1 .0) (vs .0) is lz le lr (records-are (text .now) cr ir ys (ws .1 .0) (entries .now) (ws .1 .1 .0) (records .now) (vs .0) r n (s .0) e g)))))))))))))))))))))))))))))))))))))))
+        keep ! (6 ∷ 1 ∷ 5 ∷ 4 ∷ 7 ∷ 2 ∷ []) $ by ! (exits u r (ws .1 .0) (ws .1 .1 .0) (vs .0) is lz le lr (records-are (readFile cr ir (text .now)) ys (ws .1 .0) (entries .now) (ws .1 .1 .0) (records .now) (vs .0) r n (read-sound cr ir (text .now)) (s .0) e g)))))))))))))))))))))))))))))))))))))))
 
 module _ {M : Type 1} (𝓤 : URA M) (H : Heap 𝓤) (A : Atoms 𝓤) (W : Given 𝓤 H A) (mem : Memory → SProp 𝓤) (run : Routine → Fun 𝓤) where
   walks : (C : Calls 𝓤 H) (Λ : Loops 𝓤 H) → FmC 𝓤 H (W .laws) C → Triple 𝓤 (C #records·read-within) (Within 𝓤 H A mem run) → Triple 𝓤 (C #records·cells-read) (Counted 𝓤 H A mem run) → Triple 𝓤 (C #records·fill-records) (Filled 𝓤 H A mem run)

@@ -7,6 +7,7 @@ use lib.ListN.{length, take}
 use lib.Seq.{length-take-le}
 use denote.Ref.{now}
 use borrow.Author.Needs.{needs}
+use Rattle.grammar.specs.Outcome.{readFile}
 use Rattle.records.specs.ReadingLaws.{within-part, within-whole}
 use Rattle.records.proofs.read_within.Statement.{statement}
 use Rattle.records.proofs.read_within.Tie as tie
@@ -41,7 +42,7 @@ returns c =
     let args = c .before .before .before .before .before .before .before .before .before .before .before .args in
     let read-file = c .before .before .before .before .read-file in
     let same : length (read-file .last .1 .0) ≡ length (take (7 * (args .room)) (now (args .table))) = search needs in
-    within-part (now (args .text)) (length (now (args .entries)) / 28) (args .room) (now (args .table)) (read-file .last .1 .0)
+    within-part (λ k. readFile k (length (now (args .entries)) / 28) (now (args .text))) (args .room) (now (args .table)) (read-file .last .1 .0)
     (now (args .entries)) (read-file .last .1 .1 .0) (read-file .result) (c .before .before .before .before .before .before .before .if1 .taken) (read-file .ensures) same
 
 read-file-requires-2 : tie.Need-read-file-requires-2
@@ -58,7 +59,7 @@ returns-2 c =
     let args = c .before .before .before .before .before .before .before .before .before .before .before .args in
     let read-file = c .before .before .before .before .read-file2 in
     let same : length (read-file .last .1 .0) ≡ length (now (args .table)) = search needs in
-    within-whole (now (args .text)) (length (now (args .entries)) / 28) (args .room) (now (args .table)) (read-file .last .1 .0)
+    within-whole (λ k. readFile k (length (now (args .entries)) / 28) (now (args .text))) (args .room) (now (args .table)) (read-file .last .1 .0)
     (now (args .entries)) (read-file .last .1 .1 .0) (read-file .result) (c .before .before .before .before .before .before .before .if1 .left) (read-file .ensures) same
 
 pub read-within-spec : {M : Type 1} → statement M
