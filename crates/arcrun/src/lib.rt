@@ -169,7 +169,7 @@ fn meant_every<'a>(
 }
 
 // Whether it means that arc in one of the instances that its cell applies to.
-fn is_meant<'a>(
+pub fn is_meant<'a>(
     start: &[u8],
     file: &'a [u8],
     incoming: &'a [u8],
@@ -367,7 +367,7 @@ fn mask(rows: [[u64; 3]; 6], flags: &[u8]) -> [[u64; 3]; 6]
 }
 
 // Takes the arc's touched values through the entry whose row stands at a place: its refusal, or 0.
-fn run_entry<'a>(
+pub fn run_entry<'a>(
     start: &[u8],
     file: &'a [u8],
     incoming: &'a [u8],

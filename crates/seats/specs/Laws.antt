@@ -12,18 +12,26 @@ use lib.Seq.{paste, length-take-le, take-append-le, drop-append-le, take-at, dro
 use borrow.Author.Tests.{eqb-true, eqb-false, eq-eqb, ne-eqb, ltb-true, ltb-false, le-ltb, not-true}
 use Rattle.classes.specs.Choice.{pick, and, or}
 use Rattle.names.specs.Shape.{escapes}
-use Rattle.names.specs.Order.{front, front-nil, front-cons}
+use Rattle.names.specs.Order.{front, front-nil, front-cons, sameText}
 use Rattle.names.specs.Name.{canon, canonFrom, turned, canon-cons, partOf, both}
-use Rattle.sheetform.specs.Form.{keyAt}
-use Rattle.sheetlaws.specs.Sheet.{arNext}
-use Rattle.views.specs.Views.{cellAt}
+use Rattle.sheetform.specs.Form.{Key, keyAt, pathAt, typeAt, cmpKey}
+use Rattle.sheetlaws.specs.Sheet.{inEnd, nth}
+use Rattle.views.specs.Views.{cellAt, headAt}
 use Rattle.history.specs.EventLaws.{clash}
 use Rattle.annotate.specs.Cells.{entriesBefore}
-use Rattle.patching.specs.Meant.{mayTouch}
+use Rattle.grammar.specs.declared.Entry.{Entry}
+use Rattle.sheet.specs.Find.{wanted, key-same}
+use Rattle.applying.specs.Bytes.{someOf, deviceHit}
+use Rattle.annotate.specs.declared.Whom.{Whom}
+use Rattle.annotate.specs.declared.Whom.the-variants.{One, Every, Nobody}
+use Rattle.annotate.specs.Whom.{whomOf}
+use Rattle.patching.specs.Meant.{mayTouch, meantIn, meantEvery}
 use Rattle.arcrun.specs.declared.Least.the-variants as least
-use Rattle.arcrun.specs.Run.{CellRan, CellsRan}
-use Rattle.arcrun.specs.CellRuns.{cell-skipped, CellsSoFar, cells-none, cells-more, cells-end}
-use Rattle.seats.specs.Seats.{agree, Ends, Common, partNo, SeatRan, SeatsRan, CellsSeatsRan}
+use Rattle.arcrun.specs.Touch.{meantFor}
+use Rattle.arcrun.specs.Run.{entryNumber, entryState, EntriesRan, CellRan, CellsRan}
+use Rattle.arcrun.specs.RunLaws.{RunSoFar, run-none, run-more, run-end}
+use Rattle.arcrun.specs.CellRuns.{cell-ran, cell-skipped, CellsSoFar, cells-none, cells-more, cells-end}
+use Rattle.seats.specs.Seats.{agree, Ends, Common, NoneNear, kindFits, NoneFits, partNo, SeatRan, EntryRan, EntriesSeatsRan, SeatsRan, CellsSeatsRan}
 
 -- 1. Names that agree
 
@@ -122,6 +130,14 @@ agree-canon slash x p a = agree-written slash false x p a
 
 -- 2. A cell that can touch none
 
+-- one number more for which a test fails
+pub one-more : (test : ℕ → Bool) (i : ℕ) → ((k : ℕ) → k < i → test k ≡ false) → test i ≡ false → (k : ℕ) → k < i + 1 → test k ≡ false
+one-more test i so e k h = go (eqb k i) refl
+  where
+    go : (z : Bool) → eqb k i ≡ z → test k ≡ false
+    go true p = rw (eqb-true k i p) e
+    go false p = let d = eqb-false k i p in so k (omega arith)
+
 -- what is not so
 pub unless : (a r : Bool) → (a ≡ true → r ≡ true) → not r ≡ true → a ≡ false
 unless true r h e = clash (sym (not-true r e) ∙ h refl)
@@ -184,58 +200,154 @@ part-other t p s i g l d = part-else 144 t p s i g l d (λ h. omega arith) (λ h
 pub flags-other : (t p : List ℕ) (s i : ℕ) → 18 * s ≤ length t → length p ≡ 18 → (i ≡ s → ⊥) → partNo 18 (paste t (18 * s) p 18) i ≡ partNo 18 t i
 flags-other t p s i g l d = part-else 18 t p s i g l d (λ h. omega arith) (λ h. omega arith)
 
--- 4. One seat more
+-- 4. An entry that cannot mean an arc
 
-module _ (b text : List ℕ) (slash : Bool) (n m f : ℕ) (side : Bool) (cells : List ℕ) (row : ℕ) (entries : List ℕ) (first event : ℕ)
-    (arcs flags states : List ℕ) where
+module _ (b text : List ℕ) (slash : Bool) (n : ℕ) (h : Entry) (q : ℕ) (no : kindFits (h .kind) (keyAt b q .kind) ≡ false) where
+  unmeant-in : (p : ℕ) → meantIn b text slash h p q ≡ false
+  unfolding meantIn deviceHit wanted
+  unmeant-in p = go (eqb (h .kind) 4) refl
+    where
+      key : Key
+      key = wanted slash (h .kind) (h .edge1) (h .edge2) (pathAt b p) (partOf text (h .from1) (h .to1)) (partOf text (h .from2) (h .to2))
+
+      same : eqb (h .kind) 4 ≡ false → (z : Bool) → eqb (cmpKey (keyAt b q) key) 1 ≡ z → z ≡ false
+      same d true e =
+          let k : keyAt b q .kind ≡ h .kind = ap (λ (x : Key). x .kind) (key-same (keyAt b q) key (eqb-true _ _ e)) in
+          clash (sym (rw d at no) ∙ eq-eqb _ _ k)
+      same d false e = refl
+
+      go : (t : Bool) → eqb (h .kind) 4 ≡ t → pick t (deviceHit b text slash h p q) (eqb (cmpKey (keyAt b q) key) 1) ≡ false
+      go true d = rw (rw d at no)
+      go false d = same d (eqb (cmpKey (keyAt b q) key) 1) refl
+
+  pub unmeant : (whom : Whom) (type : List ℕ) → meantFor b text slash n h whom type q ≡ false
+  unfolding meantFor meantEvery someOf
+  unmeant (One p) type = unmeant-in p
+  unmeant Every type =
+      none-of (λ k. and (sameText (typeAt b (nth (inEnd b) k 12)) type) (meantIn b text slash h (nth (inEnd b) k 12) q)) n
+      (λ k. rw (unmeant-in (nth (inEnd b) k 12)) (and-false (sameText (typeAt b (nth (inEnd b) k 12)) type)))
+    where
+      and-false : (t : Bool) → and t false ≡ false
+      and-false true = refl
+      and-false false = refl
+
+      none-of : (hit : ℕ → Bool) (k : ℕ) → ((i : ℕ) → hit i ≡ false) → someOf hit k ≡ false
+      none-of hit zero e = refl
+      none-of hit (suc k) e = rw (none-of hit k e, e k)
+  unmeant (Nobody x) type = refl
+
+-- it changes nothing
+module _ (b text : List ℕ) (slash : Bool) (n : ℕ) (t : List ℕ) (row : ℕ) (whom : Whom) (type : List ℕ) (q : ℕ) (flags st : List ℕ)
+    (no : meantFor b text slash n (headAt t row) whom type q ≡ false) where
+  passed-number : entryNumber b text slash n t row whom type q flags st ≡ 0
+  unfolding entryNumber
+  passed-number = rw no
+
+  passed-state : entryState b text slash n t row whom type q flags st ≡ st
+  unfolding entryState
+  passed-state = rw no
+
+-- 5. One seat more
+
+module _ (b text : List ℕ) (slash : Bool) (n : ℕ) (t : List ℕ) (row : ℕ) (whom : Whom) (type : List ℕ) (arcs flags states : List ℕ) where
   -- the first i seats were run, and the others are as they were
   abbrev pub SeatsSoFar : ℕ → List ℕ → Type 0
   SeatsSoFar i o =
-      (SeatsRan b text slash n m f side cells row entries first event arcs flags states i o)
-      × ((k : ℕ) → i ≤ k → partNo 144 o k ≡ partNo 144 states k)
+      (EntryRan b text slash n t row whom type arcs flags states i o) × ((k : ℕ) → i ≤ k → partNo 144 o k ≡ partNo 144 states k)
 
   pub seats-none : SeatsSoFar 0 states
   seats-none = (λ i h. absurd (omega arith), λ k h. refl)
 
   pub seats-more : (i : ℕ) (o o′ : List ℕ) → 144 * i + 144 ≤ length o → SeatsSoFar i o
-      → SeatRan b text slash n m f side cells row entries first (getD arcs i 0) flags o o′ i event → SeatsSoFar (i + 1) o′
-  seats-more i o o′ long so run = (λ k h. go k h (eqb k i) refl, λ k h. rw (run .2) (part-other o (run .0) i k (omega arith) (run .1) (λ e. omega arith)) ∙ so .1 k (omega arith))
+      → SeatRan b text slash n t row whom type (getD arcs i 0) flags o o′ i → SeatsSoFar (i + 1) o′
+  seats-more i o o′ long so run = (
+    λ k h. go k h (eqb k i) refl,
+    λ k h. rw (run .2) (part-other o (run .0) i k (omega arith) (run .1) (λ e. omega arith)) ∙ so .1 k (omega arith),
+  )
     where
       own : partNo 144 o′ i ≡ run .0
       own = rw (run .2) (part-own o (run .0) (144 * i) 144 (omega arith) (run .1))
 
-      go : (k : ℕ) → k < i + 1 → (t : Bool) → eqb k i ≡ t
-          → CellRan b text slash n m f side cells row entries first (getD arcs k 0) (partNo 18 flags k) (partNo 144 states k) (partNo 144 o′ k) event
-          least.Nothing
-      go k h true e = rw (eqb-true k i e, own, ← so .1 i (omega arith)) (run .3)
+      go : (k : ℕ) → k < i + 1 → (z : Bool) → eqb k i ≡ z
+          → (entryNumber b text slash n t row whom type (getD arcs k 0) (partNo 18 flags k) (partNo 144 states k) ≡ 0)
+          × (partNo 144 o′ k ≡ entryState b text slash n t row whom type (getD arcs k 0) (partNo 18 flags k) (partNo 144 states k))
+      go k h true e = rw (eqb-true k i e, own, ← so .1 i (omega arith)) (run .3, run .4)
       go k h false e =
           let d = eqb-false k i e in
           rw (run .2, part-other o (run .0) i k (omega arith) (run .1) d) (so .0 k (omega arith))
 
-  -- a seat that the cell passes by
-  pub seats-pass : (i : ℕ) (o : List ℕ) → eqb (cellAt cells row .sort) 2 ≡ false
-      → mayTouch b text slash (cellAt cells row .pathfrom) (cellAt cells row .pathto) (getD arcs i 0) ≡ false → SeatsSoFar i o → SeatsSoFar (i + 1) o
-  seats-pass i o s z so = (λ k h. go k h (eqb k i) refl, λ k h. so .1 k (omega arith))
+  -- a seat whose arc the entry does not mean
+  pub seats-pass : (i : ℕ) (o : List ℕ) → meantFor b text slash n (headAt t row) whom type (getD arcs i 0) ≡ false → SeatsSoFar i o → SeatsSoFar (i + 1) o
+  seats-pass i o un so = (λ k h. go k h (eqb k i) refl, λ k h. so .1 k (omega arith))
     where
-      go : (k : ℕ) → k < i + 1 → (t : Bool) → eqb k i ≡ t
-          → CellRan b text slash n m f side cells row entries first (getD arcs k 0) (partNo 18 flags k) (partNo 144 states k) (partNo 144 o k) event
-          least.Nothing
+      go : (k : ℕ) → k < i + 1 → (z : Bool) → eqb k i ≡ z
+          → (entryNumber b text slash n t row whom type (getD arcs k 0) (partNo 18 flags k) (partNo 144 states k) ≡ 0)
+          × (partNo 144 o k ≡ entryState b text slash n t row whom type (getD arcs k 0) (partNo 18 flags k) (partNo 144 states k))
       go k h true e =
-          rw (eqb-true k i e, so .1 i (omega arith))
-          (cell-skipped b text slash n m f side cells row entries first (getD arcs i 0) (partNo 18 flags i) (partNo 144 states i) event s z)
+          rw (eqb-true k i e) (
+            passed-number b text slash n t row whom type (getD arcs i 0) (partNo 18 flags i) (partNo 144 states i) un,
+            so .1 i (omega arith) ∙ sym (passed-state b text slash n t row whom type (getD arcs i 0) (partNo 18 flags i) (partNo 144 states i) un),
+          )
       go k h false e =
           let d = eqb-false k i e in
           so .0 k (omega arith)
 
-  -- a cell that passes all by
-  pub seats-far : (count : ℕ) (x : List ℕ) → eqb (cellAt cells row .sort) 2 ≡ false
-      → agree x (canon slash (partOf text (cellAt cells row .pathfrom) (cellAt cells row .pathto))) ≡ false → Common b arcs count x
-      → SeatsRan b text slash n m f side cells row entries first event arcs flags states count states
-  seats-far count x s a common i h =
-      cell-skipped b text slash n m f side cells row entries first (getD arcs i 0) (partNo 18 flags i) (partNo 144 states i) event s
-      (far-off b text slash (cellAt cells row .pathfrom) (cellAt cells row .pathto) (getD arcs i 0) x a (common i h))
+  -- an entry of a kind that fits none
+  pub seats-unwanted : (count : ℕ) → NoneFits b (headAt t row .kind) arcs count → EntryRan b text slash n t row whom type arcs flags states count states
+  seats-unwanted count none i h =
+      let un = unmeant b text slash n (headAt t row) (getD arcs i 0) (none i h) whom type in (
+        passed-number b text slash n t row whom type (getD arcs i 0) (partNo 18 flags i) (partNo 144 states i) un,
+        sym (passed-state b text slash n t row whom type (getD arcs i 0) (partNo 18 flags i) (partNo 144 states i) un),
+      )
 
--- 5. One cell more
+-- 6. One entry more
+
+module _ (b text : List ℕ) (slash : Bool) (n m f : ℕ) (side : Bool) (t : List ℕ) (first some : ℕ) (whom : Whom) (type : List ℕ) (event : ℕ)
+    (arcs flags states : List ℕ) (count : ℕ) where
+  -- all seats were run through the first k entries
+  abbrev pub EntriesSoFar : ℕ → List ℕ → Type 0
+  EntriesSoFar k o =
+      (i : ℕ) → i < count → RunSoFar b text slash n m f side t first some whom type (getD arcs i 0) (partNo 18 flags i) (partNo 144 states i) event k
+      (partNo 144 o i)
+
+  pub entries-none : EntriesSoFar 0 states
+  entries-none i h = run-none b text slash n m f side t first some whom type (getD arcs i 0) (partNo 18 flags i) (partNo 144 states i) event
+
+  pub entries-more : (k : ℕ) (o o′ : List ℕ) → k < some → EntriesSoFar k o
+      → EntryRan b text slash n t (28 * (first + k)) whom type arcs flags o count o′ → EntriesSoFar (suc k) o′
+  entries-more k o o′ l so run i h =
+      run-more b text slash n m f side t first some whom type (getD arcs i 0) (partNo 18 flags i) (partNo 144 states i) event k (partNo 144 o i) (partNo 144 o′ i) l
+      (so i h) (run i h .0) (run i h .1)
+
+  pub entries-end : (o : List ℕ) → EntriesSoFar some o → EntriesSeatsRan b text slash n m f side t first some whom type event arcs flags states count o
+  entries-end o so i h =
+      run-end b text slash n m f side t first some whom type (getD arcs i 0) (partNo 18 flags i) (partNo 144 states i) event (partNo 144 o i) (so i h)
+
+-- 7. A cell
+
+module _ (b text : List ℕ) (slash : Bool) (n m f : ℕ) (side : Bool) (cells : List ℕ) (row : ℕ) (entries : List ℕ) (first event : ℕ)
+    (arcs flags states : List ℕ) (count : ℕ) where
+  -- its entries were run
+  pub seats-ran : (whom : Whom) (states′ : List ℕ) → whomOf b text slash n (cellAt cells row) ≡ whom
+      → EntriesSeatsRan b text slash n m f side entries first (cellAt cells row .entries) whom
+      (partOf text (cellAt cells row .typefrom) (cellAt cells row .typeto)) (event + 1) arcs flags states count states′
+      → SeatsRan b text slash n m f side cells row entries first event arcs flags states count states′
+  seats-ran whom states′ e run i h =
+      cell-ran b text slash n m f side cells row entries first (getD arcs i 0) (partNo 18 flags i) (partNo 144 states i) event (partNo 144 states′ i) whom
+      least.Nothing e (run i h)
+
+  -- it can touch none
+  pub seats-skipped : eqb (cellAt cells row .sort) 2 ≡ false → NoneNear b text slash (cellAt cells row .pathfrom) (cellAt cells row .pathto) arcs count
+      → SeatsRan b text slash n m f side cells row entries first event arcs flags states count states
+  seats-skipped s none i h =
+      cell-skipped b text slash n m f side cells row entries first (getD arcs i 0) (partNo 18 flags i) (partNo 144 states i) event s (none i h)
+
+  -- by its path against the common name
+  pub far-none : (x : List ℕ) → agree x (canon slash (partOf text (cellAt cells row .pathfrom) (cellAt cells row .pathto))) ≡ false → Common b arcs count x
+      → NoneNear b text slash (cellAt cells row .pathfrom) (cellAt cells row .pathto) arcs count
+  far-none x a common i h = far-off b text slash (cellAt cells row .pathfrom) (cellAt cells row .pathto) (getD arcs i 0) x a (common i h)
+
+-- 8. One cell more
 
 module _ (b text : List ℕ) (slash : Bool) (n m f : ℕ) (cells : List ℕ) (from to : ℕ) (entries : List ℕ) (event : ℕ) (arcs flags states : List ℕ)
     (count : ℕ) where

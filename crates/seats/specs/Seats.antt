@@ -2,16 +2,18 @@
 -- Assumes nothing.
 use Prim.Native.Nat.{ℕ, _+_, _*_, _<_, _≤_}
 use mathlib.Core.Path.{_≡_}
-use mathlib.Core.Bool.{Bool, true}
+use mathlib.Core.Bool.{Bool, true, false}
 use mathlib.Core.List.{List, [], _∷_}
 use lib.Dec.{eqb}
 use lib.ListN.{length, getD, take, drop}
 use lib.Seq.{paste}
-use Rattle.classes.specs.Choice.{and}
+use Rattle.classes.specs.Choice.{pick, and}
 use Rattle.sheetform.specs.Form.{keyAt}
 use Rattle.sheetlaws.specs.Sheet.{arNext}
 use Rattle.arcrun.specs.declared.Least.the-variants as least
-use Rattle.arcrun.specs.Run.{CellRan, CellsRan}
+use Rattle.annotate.specs.declared.Whom.{Whom}
+use Rattle.patching.specs.Meant.{mayTouch}
+use Rattle.arcrun.specs.Run.{entryNumber, entryState, EntriesRan, CellRan, CellsRan}
 
 -- two names are the same as far as both go
 unfoldable pub agree : List ℕ → List ℕ → Bool
@@ -34,20 +36,47 @@ Common b arcs count x = (i : ℕ) → i < count → Ends b (getD arcs i 0) x
 abbrev pub partNo : ℕ → List ℕ → ℕ → List ℕ
 partNo size t i = take size (drop (size * i) t)
 
-module _ (b text : List ℕ) (slash : Bool) (n m f : ℕ) where
-  -- one seat went through a cell without a fault, and no other was changed
-  abbrev pub SeatRan : (side : Bool) (cells : List ℕ) (row : ℕ) (entries : List ℕ) (first q : ℕ) (flags states states′ : List ℕ) (seat event : ℕ) → Type 0
-  SeatRan side cells row entries first q flags states states′ seat event =
+-- a cell with this path touches none of them
+abbrev pub NoneNear : (b text : List ℕ) (slash : Bool) (from to : ℕ) → List ℕ → ℕ → Type 0
+NoneNear b text slash from to arcs count = (i : ℕ) → i < count → mayTouch b text slash from to (getD arcs i 0) ≡ false
+
+-- an entry of a kind can mean an arc of another: DEVICE, 4, means IOPATH arcs
+abbrev pub kindFits : ℕ → ℕ → Bool
+kindFits kind other = pick (eqb kind 4) (eqb other 1) (eqb other kind)
+
+-- it means none of them
+abbrev pub NoneFits : List ℕ → ℕ → List ℕ → ℕ → Type 0
+NoneFits b kind arcs count = (i : ℕ) → i < count → kindFits kind (keyAt b (getD arcs i 0) .kind) ≡ false
+
+-- the entry whose row stands at a place of the table t
+module _ (b text : List ℕ) (slash : Bool) (n : ℕ) (t : List ℕ) (row : ℕ) (whom : Whom) (type : List ℕ) where
+  -- one seat went through it without a fault, and no other was changed
+  abbrev pub SeatRan : (q : ℕ) (flags states states′ : List ℕ) (seat : ℕ) → Type 0
+  SeatRan q flags states states′ seat =
       (st : List ℕ) × (length st ≡ 144) × (states′ ≡ paste states (144 * seat) st 144)
-      × CellRan b text slash n m f side cells row entries first q (partNo 18 flags seat) (partNo 144 states seat) st event least.Nothing
+      × (entryNumber b text slash n t row whom type q (partNo 18 flags seat) (partNo 144 states seat) ≡ 0)
+      × (st ≡ entryState b text slash n t row whom type q (partNo 18 flags seat) (partNo 144 states seat))
 
   -- the first `count` seats did
+  abbrev pub EntryRan : (arcs flags states : List ℕ) → ℕ → List ℕ → Type 0
+  EntryRan arcs flags states count states′ =
+      (i : ℕ) → i < count → (entryNumber b text slash n t row whom type (getD arcs i 0) (partNo 18 flags i) (partNo 144 states i) ≡ 0)
+      × (partNo 144 states′ i ≡ entryState b text slash n t row whom type (getD arcs i 0) (partNo 18 flags i) (partNo 144 states i))
+
+module _ (b text : List ℕ) (slash : Bool) (n m f : ℕ) where
+  -- the first `count` seats went through these entries of one cell
+  abbrev pub EntriesSeatsRan : (side : Bool) (t : List ℕ) (first some : ℕ) → Whom → (type : List ℕ) (event : ℕ) (arcs flags states : List ℕ) → ℕ → List ℕ → Type 0
+  EntriesSeatsRan side t first some whom type event arcs flags states count states′ =
+      (i : ℕ) → i < count → EntriesRan b text slash n m f side t first some whom type (getD arcs i 0) (partNo 18 flags i) (partNo 144 states i)
+      (partNo 144 states′ i) event least.Nothing
+
+  -- through a cell
   abbrev pub SeatsRan : (side : Bool) (cells : List ℕ) (row : ℕ) (entries : List ℕ) (first event : ℕ) (arcs flags states : List ℕ) → ℕ → List ℕ → Type 0
   SeatsRan side cells row entries first event arcs flags states count states′ =
       (i : ℕ) → i < count → CellRan b text slash n m f side cells row entries first (getD arcs i 0) (partNo 18 flags i) (partNo 144 states i)
       (partNo 144 states′ i) event least.Nothing
 
-  -- and went through the file's cells number `from` up to `to`
+  -- through the file's cells number `from` up to `to`
   abbrev pub CellsSeatsRan : (cells : List ℕ) (from to : ℕ) (entries : List ℕ) (event : ℕ) (arcs flags states : List ℕ) → ℕ → List ℕ → Type 0
   CellsSeatsRan cells from to entries event arcs flags states count states′ =
       (i : ℕ) → i < count → CellsRan b text slash n m f cells from to entries (getD arcs i 0) (partNo 18 flags i) (partNo 144 states i)

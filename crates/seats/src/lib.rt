@@ -11,15 +11,19 @@ ghost use Rattle.names.specs.Name.{canon, partOf};
 ghost use Rattle.sheetlaws.specs.Sheet.{arNext};
 ghost use Rattle.sheet.specs.Find.{InstanceSearch};
 ghost use Rattle.annotate.specs.Cells.{entriesBefore};
-ghost use Rattle.patching.specs.Meant.{mayTouch};
-ghost use Rattle.seats.specs.Seats.{agree, Ends, There, Common, SeatRan, SeatsRan, CellsSeatsRan};
+ghost use Rattle.annotate.specs.Whom.{InSheet};
+ghost use Rattle.seats.specs.Seats.{agree, Ends, There, Common, NoneNear, kindFits, NoneFits, SeatRan, EntryRan, EntriesSeatsRan, SeatsRan, CellsSeatsRan};
+use annotate::Whom;
 use apply::Plan;
-use arcrun::Least;
 use grammar::Cell;
 
 const EVERY: u8 = 2;
 
 const SAME: u8 = 1;
+
+const IOPATH: u8 = 1;
+
+const DEVICE: u8 = 4;
 
 // The bytes of a seat's flags and of its values.
 const FLAGS: usize = 18;
@@ -130,27 +134,60 @@ fn is_far<'a>(
     !agrees(common, path, slash)
 }
 
-// Whether a cell has a path that cannot touch the arc at a place.
-fn passes_by<'a>(
+// Whether a cell can touch one of the seated arcs: it has no path of its own, or that is a front part of an end.
+fn is_near<'a>(
     start: &[u8],
     file: &'a [u8],
     incoming: &'a [u8],
     side: bool,
     slash: bool,
     cell: Cell,
-    arc: usize,
+    arcs: &[usize; 64],
+    count: usize,
 ) -> bool
-    requires { ⌜ arNext (now start) arc ≤ length (now start) ⌝ }
-    ensures { λ r. ⌜ (r ≡ true → (eqb (cell .sort) 2 ≡ false)
-        × (mayTouch (now (start .entry)) (pick side (now (incoming .entry)) (now (file .entry))) slash (cell .pathfrom) (cell .pathto) arc ≡ false)) ⌝ }
+    requires { ⌜ (There (now start) (now arcs) count) × (count ≤ 64) ⌝ }
+    ensures { λ r. ⌜ (r ≡ false → (eqb (cell .sort) 2 ≡ false)
+        × NoneNear (now (start .entry)) (pick side (now (incoming .entry)) (now (file .entry))) slash (cell .pathfrom) (cell .pathto) (now (arcs .entry)) count) ⌝ }
 {
     if cell.sort == EVERY {
-        return false;
+        return true;
     }
-    !arcrun::may_touch(start, file, incoming, side, slash, cell.pathfrom, cell.pathto, arc)
+    let mut i = 0;
+    while i < count {
+        if arcrun::may_touch(start, file, incoming, side, slash, cell.pathfrom, cell.pathto, arcs[i]) {
+            return true;
+        }
+        i += 1;
+    }
+    false
 }
 
-// Takes the values of one seat through a cell, whose keyword is an event's number; false where there is a fault.
+// Whether an entry of a kind can mean an arc of another: DEVICE means IOPATH arcs.
+fn fits(kind: u8, other: u8) -> bool
+    ensures { λ r. ⌜ r ≡ kindFits kind other ⌝ }
+{
+    if kind == DEVICE {
+        return other == IOPATH;
+    }
+    other == kind
+}
+
+// Whether an entry of a kind can mean one of the seated arcs.
+fn is_wanted(start: &[u8], arcs: &[usize; 64], count: usize, kind: u8) -> bool
+    requires { ⌜ (There (now start) (now arcs) count) × (count ≤ 64) ⌝ }
+    ensures { λ r. ⌜ (r ≡ false → NoneFits (now (start .entry)) kind (now (arcs .entry)) count) ⌝ }
+{
+    let mut i = 0;
+    while i < count {
+        if fits(kind, sheet::arc_kind(start, arcs[i])) {
+            return true;
+        }
+        i += 1;
+    }
+    false
+}
+
+// Takes the values of one seat through an entry; false where there is a fault.
 fn run_seat<'a>(
     start: &[u8],
     file: &'a [u8],
@@ -158,58 +195,165 @@ fn run_seat<'a>(
     side: bool,
     plan: Plan,
     places: &[u32; 4096],
-    cells: &[u64],
-    row: usize,
     entries: &[u64],
-    first: usize,
+    row: usize,
+    whom: Whom,
+    celltype: &[u8],
     arc: usize,
     flags: &[u8],
     states: &mut [u8],
     seat: usize,
-    event: usize,
 ) -> bool
-    requires { ⌜ (InstanceSearch (now start) (plan .instances) 12 (now places)) × (arNext (now start) arc ≤ length (now start))
-        × (row + 7 ≤ length (now cells)) × (28 * (first + getD (now cells) (row + 6) 0) ≤ length (now entries)) × (18 * seat + 18 ≤ length (now flags))
-        × (144 * seat + 144 ≤ length (now states)) × (event + 1 + getD (now cells) (row + 6) 0 < 18446744073709551616) ⌝ }
+    requires { ⌜ (InstanceSearch (now start) (plan .instances) 12 (now places)) × (arNext (now start) arc ≤ length (now start)) × (InSheet (now start) whom)
+        × (row + 28 ≤ length (now entries)) × (18 * seat + 18 ≤ length (now flags)) × (144 * seat + 144 ≤ length (now states)) ⌝ }
     ensures { λ r. ⌜ (length (now (states .exit)) ≡ length (now (states .entry)))
-        × (r ≡ true → SeatRan (now (start .entry)) (pick side (now (incoming .entry)) (now (file .entry))) (plan .slash) (plan .instances) (plan .arcs)
-        (plan .first) side (now (cells .entry)) row (now (entries .entry)) first arc (now (flags .entry)) (now (states .entry)) (now (states .exit)) seat event) ⌝ }
+        × (r ≡ true → SeatRan (now (start .entry)) (pick side (now (incoming .entry)) (now (file .entry))) (plan .slash) (plan .instances) (now (entries .entry))
+        row whom (now (celltype .entry)) arc (now (flags .entry)) (now (states .entry)) (now (states .exit)) seat) ⌝ }
 {
     let mut mask = [0u8; 18];
     load(flags, FLAGS * seat, &mut mask);
     let mut state = [0u8; 144];
     load(states, VALUES * seat, &mut state);
-    let least = arcrun::run_cell(
+    let number = arcrun::run_entry(
         start,
         file,
         incoming,
         side,
         plan,
         places,
-        cells,
-        row,
         entries,
-        first,
+        row,
+        whom,
+        celltype,
         arc,
         &mask,
         &mut state,
-        event,
     );
-    match least {
-        Least::Fault {
-            event: e,
-            number,
-            place,
-            incoming: i,
-        } => false,
-        Least::Nothing => {
-            store(states, VALUES * seat, &state);
-            true
-        }
+    if number != 0 {
+        return false;
     }
+    store(states, VALUES * seat, &state);
+    true
 }
 
-// Takes the values of all seats through a cell.
+// Takes the values of all seats whose arc the entry means through it.
+fn run_entry<'a>(
+    start: &[u8],
+    file: &'a [u8],
+    incoming: &'a [u8],
+    side: bool,
+    plan: Plan,
+    places: &[u32; 4096],
+    entries: &[u64],
+    row: usize,
+    whom: Whom,
+    celltype: &[u8],
+    arcs: &[usize; 64],
+    count: usize,
+    flags: &[u8],
+    states: &mut [u8],
+) -> bool
+    requires { ⌜ (InstanceSearch (now start) (plan .instances) 12 (now places)) × (There (now start) (now arcs) count) × (InSheet (now start) whom)
+        × (row + 28 ≤ length (now entries)) × (count ≤ 64) × (18 * count ≤ length (now flags)) × (144 * count ≤ length (now states)) ⌝ }
+    ensures { λ r. ⌜ (length (now (states .exit)) ≡ length (now (states .entry)))
+        × (r ≡ true → EntryRan (now (start .entry)) (pick side (now (incoming .entry)) (now (file .entry))) (plan .slash) (plan .instances) (now (entries .entry))
+        row whom (now (celltype .entry)) (now (arcs .entry)) (now (flags .entry)) (now (states .entry)) count (now (states .exit))) ⌝ }
+{
+    let entry = views::head_at(entries, row);
+    let mut i = 0;
+    while i < count {
+        if arcrun::is_meant(
+            start,
+            file,
+            incoming,
+            side,
+            plan,
+            places,
+            entry,
+            whom,
+            celltype,
+            arcs[i],
+        ) {
+            if !run_seat(
+                start,
+                file,
+                incoming,
+                side,
+                plan,
+                places,
+                entries,
+                row,
+                whom,
+                celltype,
+                arcs[i],
+                flags,
+                states,
+                i,
+            ) {
+                return false;
+            }
+        }
+        i += 1;
+    }
+    true
+}
+
+// Takes them through so many entries of one cell, from entry number `first` on; the first is an event's number.
+fn run_entries<'a>(
+    start: &[u8],
+    file: &'a [u8],
+    incoming: &'a [u8],
+    side: bool,
+    plan: Plan,
+    places: &[u32; 4096],
+    entries: &[u64],
+    first: usize,
+    some: usize,
+    whom: Whom,
+    celltype: &[u8],
+    arcs: &[usize; 64],
+    count: usize,
+    flags: &[u8],
+    states: &mut [u8],
+    event: usize,
+) -> bool
+    requires { ⌜ (InstanceSearch (now start) (plan .instances) 12 (now places)) × (There (now start) (now arcs) count) × (InSheet (now start) whom)
+        × (28 * (first + some) ≤ length (now entries)) × (count ≤ 64) × (18 * count ≤ length (now flags)) × (144 * count ≤ length (now states)) ⌝ }
+    ensures { λ r. ⌜ (length (now (states .exit)) ≡ length (now (states .entry)))
+        × (r ≡ true → EntriesSeatsRan (now (start .entry)) (pick side (now (incoming .entry)) (now (file .entry))) (plan .slash) (plan .instances) (plan .arcs)
+        (plan .first) side (now (entries .entry)) first some whom (now (celltype .entry)) event (now (arcs .entry)) (now (flags .entry))
+        (now (states .entry)) count (now (states .exit))) ⌝ }
+{
+    let mut k = 0;
+    while k < some {
+        let row = 28 * (first + k);
+        let entry = views::head_at(entries, row);
+        if is_wanted(start, arcs, count, entry.kind) {
+            if !run_entry(
+                start,
+                file,
+                incoming,
+                side,
+                plan,
+                places,
+                entries,
+                row,
+                whom,
+                celltype,
+                arcs,
+                count,
+                flags,
+                states,
+            ) {
+                return false;
+            }
+        }
+        k += 1;
+    }
+    true
+}
+
+// Takes the values of all seats through a cell, whose keyword is an event's number; false where there is a fault.
 pub fn run_seats<'a>(
     start: &[u8],
     file: &'a [u8],
@@ -241,32 +385,35 @@ pub fn run_seats<'a>(
     if is_far(file, incoming, side, plan.slash, cell, common) {
         return true;
     }
-    let mut i = 0;
-    while i < count {
-        if !passes_by(start, file, incoming, side, plan.slash, cell, arcs[i]) {
-            if !run_seat(
-                start,
-                file,
-                incoming,
-                side,
-                plan,
-                places,
-                cells,
-                row,
-                entries,
-                first,
-                arcs[i],
-                flags,
-                states,
-                i,
-                event,
-            ) {
-                return false;
-            }
-        }
-        i += 1;
+    if !is_near(start, file, incoming, side, plan.slash, cell, arcs, count) {
+        return true;
     }
-    true
+    let celltype = names::name_of(file, incoming, side, cell.typefrom, cell.typeto);
+    let whom = annotate::whom_of(
+        start,
+        arcrun::text_of(file, incoming, side),
+        plan,
+        places,
+        cell,
+    );
+    run_entries(
+        start,
+        file,
+        incoming,
+        side,
+        plan,
+        places,
+        entries,
+        first,
+        cell.entries,
+        whom,
+        celltype,
+        arcs,
+        count,
+        flags,
+        states,
+        event + 1,
+    )
 }
 
 // Takes them through the file's cells number `from` up to `to`, from 0 on; `before` entries stand before them, and their events start at `begin`.

@@ -1,7 +1,8 @@
 -- `seats::run_seat` meets its contract.
 -- Assumes nothing.
-use mathlib.Core.Path.{refl}
+use mathlib.Core.Path.{_≡_, refl, sym, _∙_}
 use native.Mathlib.Omega.{arith}
+use lib.ListN.{length}
 use borrow.Author.Needs.{needs}
 use Rattle.history.specs.EventLaws.{clash}
 use Rattle.seats.proofs.run_seat.Statement.{statement}
@@ -25,25 +26,25 @@ slice-aggregate-load-2 c = search needs
 load-requires-2 : tie.Need-load-requires-2
 load-requires-2 c κs = search needs
 
-slice-aggregate-run-cell : tie.Need-slice-aggregate-run-cell
-slice-aggregate-run-cell c = search needs
+slice-aggregate-run-entry : tie.Need-slice-aggregate-run-entry
+slice-aggregate-run-entry c = search needs
 
-slice-aggregate-run-cell-2 : tie.Need-slice-aggregate-run-cell-2
-slice-aggregate-run-cell-2 c = search needs
+slice-aggregate-run-entry-2 : tie.Need-slice-aggregate-run-entry-2
+slice-aggregate-run-entry-2 c = search needs
 
-run-cell-requires : tie.Need-run-cell-requires
-run-cell-requires c κs = search needs
+run-entry-requires : tie.Need-run-entry-requires
+run-entry-requires c κs = search needs
 
-enum-known-least : tie.Need-enum-known-least
-enum-known-least c = search needs
+same-length : tie.Need-same-length
+same-length c = search needs
 
-enum-told : tie.Need-enum-told
-enum-told c = search needs
+returns : tie.Need-returns
+returns c = (refl, λ e. clash e)
 
 mul-store : tie.Need-mul-store
 mul-store c =
-    let pre = c .before .before .before .before .before .before .before .before .before .before .before .before .before .before .before .before .before .before .before .before .before .pre in
-    let good = c .before .before .before .before .before .before .before .before .before .before .before .before .before .before .before .before .before .before .before .before .before .good in
+    let pre = c .before .before .before .before .before .before .before .before .before .before .before .before .before .before .before .before .before .before .before .before .pre in
+    let good = c .before .before .before .before .before .before .before .before .before .before .before .before .before .before .before .before .before .before .before .before .good in
     omega (arith, pre .5, good .1 .1 .1 .1 .1 .1 .1 .1 .1 .1 .1 .1 .0)
 
 slice-aggregate-store : tie.Need-slice-aggregate-store
@@ -52,26 +53,21 @@ slice-aggregate-store c = search needs
 store-requires : tie.Need-store-requires
 store-requires c κs = search needs
 
-same-length : tie.Need-same-length
-same-length c = search needs
-
-returns : tie.Need-returns
-returns c = (refl, λ e. clash e)
-
 same-length-2 : tie.Need-same-length-2
 same-length-2 c = search needs
 
 returns-2 : tie.Need-returns-2
 returns-2 c =
-    let run-cell = c .before .before .before .before .before .before .before .before .run-cell in
+    let run-entry = c .before .before .before .before .before .before .before .run-entry in
+    let state4 = c .before .before .before .before .before .before .state4 in
     let states = c .before .states in
     let store = c .before .before .store in
-    let enum-told = c .before .before .before .before .before .enum-told in
-    let load = c .before .before .before .before .before .before .before .before .before .before .before .before .before .before .before .before .load in
-    let load2 = c .before .before .before .before .before .before .before .before .before .before .before .before .load2 in
-    let st = run-cell .last .1 .1 .1 .1 .1 .1 .1 .1 .1 .1 .1 .1 .0 in
-    let l = run-cell .ensures .0 in
-    (states .given, λ e. (st, l, rw l at (store .ensures), rw (enum-told .given .1, load .ensures, load2 .ensures) at (run-cell .ensures .1)))
+    let load = c .before .before .before .before .before .before .before .before .before .before .before .before .before .before .before .load in
+    let load2 = c .before .before .before .before .before .before .before .before .before .before .before .load2 in
+    let if1 = c .before .before .before .before .before .if1 in
+    let st = run-entry .last .1 .1 .1 .1 .1 .1 .1 .1 .1 .1 .1 .1 .0 in
+    let l : length st ≡ 144 = state4 .given in
+    (states .given, λ e. (st, l, rw l at (store .ensures), sym (rw (load .ensures, load2 .ensures) at (run-entry .ensures .0)) ∙ if1 .left, rw (load .ensures, load2 .ensures) at (run-entry .ensures .1)))
 
 pub run-seat-spec : {M : Type 1} → statement M
 run-seat-spec =
@@ -83,15 +79,13 @@ run-seat-spec =
     mul-load-2
     slice-aggregate-load-2
     load-requires-2
-    slice-aggregate-run-cell
-    slice-aggregate-run-cell-2
-    run-cell-requires
-    enum-known-least
-    enum-told
+    slice-aggregate-run-entry
+    slice-aggregate-run-entry-2
+    run-entry-requires
+    same-length
+    returns
     mul-store
     slice-aggregate-store
     store-requires
-    same-length
-    returns
     same-length-2
     returns-2)
