@@ -1,0 +1,54 @@
+-- The index of a sheet's instances by the bucket of their type.
+-- Assumes nothing.
+use Prim.Native.Nat.{ℕ, zero, suc, _+_, _*_, _%_, _≤_, _<_}
+use mathlib.Core.Path.{_≡_, refl, sym, _∙_, ap}
+use mathlib.Core.Bool.{Bool, true, false}
+use mathlib.Core.List.{List}
+use native.Mathlib.Nat.{mod-lt}
+use native.Mathlib.Numerals.{add-one}
+use native.Mathlib.Omega.{arith}
+use lib.Dec.{eqb}
+use lib.ListN.{length, getD}
+use borrow.Author.Tests.{eqb-true, eqb-false}
+use Rattle.names.specs.Order.{cmp, sameText}
+use Rattle.names.specs.Orders.{cmp-1}
+use Rattle.sheetform.specs.Form.{typeAt}
+use Rattle.sheetlaws.specs.Sheet.{inEnd, nth}
+use Rattle.bytype.specs.Chains.{Chained}
+
+-- the bucket of a text's first k bytes, and of the text
+unfoldable pub bucketTo : List ℕ → ℕ → ℕ
+bucketTo t zero = 0
+bucketTo t (suc k) = (bucketTo t k * 31 + getD t k 0) % 4096
+
+unfoldable pub bucketOf : List ℕ → ℕ
+bucketOf t = bucketTo t (length t)
+
+pub bucket-more : (t : List ℕ) (k : ℕ) → bucketTo t (k + 1) ≡ (bucketTo t k * 31 + getD t k 0) % 4096
+unfolding bucketTo
+bucket-more t k = rw add-one
+
+pub bucket-small : (t : List ℕ) (k : ℕ) → bucketTo t k < 4096
+unfolding bucketTo
+bucket-small t zero = omega arith
+bucket-small t (suc k) = mod-lt (bucketTo t k * 31 + getD t k 0) (omega arith)
+
+-- of the k-th instance: its place, and the bucket of its type
+abbrev pub spotOf : List ℕ → ℕ → ℕ
+spotOf b k = nth (inEnd b) k 12
+
+abbrev pub typeBucket : List ℕ → ℕ → ℕ
+typeBucket b k = bucketOf (typeAt b (spotOf b k))
+
+-- the table t is the index of the n instances of the sheet b
+abbrev pub Indexed : List ℕ → ℕ → List ℕ → Type 0
+Indexed b n t = Chained (typeBucket b) (spotOf b) n 0 t
+
+-- an instance of another bucket than a type's is not of that type
+pub other-bucket : (b type : List ℕ) (k : ℕ) → eqb (typeBucket b k) (bucketOf type) ≡ false → sameText (typeAt b (spotOf b k)) type ≡ false
+unfolding sameText
+other-bucket b type k e = by (eqb (cmp (typeAt b (spotOf b k)) type) 1) refl
+  where
+    by : (u : Bool) → eqb (cmp (typeAt b (spotOf b k)) type) 1 ≡ u → u ≡ false
+    by true z = absurd (eqb-false _ _ e (ap bucketOf (cmp-1 _ _ (eqb-true _ _ z))))
+    by false z = refl
