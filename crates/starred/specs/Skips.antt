@@ -1,7 +1,7 @@
 -- Going along a type's chain: what an entry meets and writes in the instances of a type does not change over the instances that the chain leaves out.
 -- Assumes nothing.
 use Prim.Native.Nat.{ℕ, suc, _+_, _*_, _≤_, _<_}
-use mathlib.Core.Path.{_≡_, refl, sym, _∙_, ap}
+use mathlib.Core.Path.{_≡_, refl, sym, _∙_, subst}
 use mathlib.Core.Bool.{Bool, true, false}
 use mathlib.Core.List.{List}
 use native.Mathlib.Omega.{arith}
@@ -14,41 +14,40 @@ use Rattle.bytype.specs.ByType.{bucketOf, typeBucket, spotOf, Indexed, other-bu
 use Rattle.applying.specs.Bytes.{leastOf, writtenOf}
 use Rattle.apply.specs.Turns.{typed, least-without, written-without}
 
+-- k is the end, or an instance in the type's bucket
+pub record OnChain (b type : List ℕ) (n k : ℕ) : Type 0 where
+  pub to : k ≤ n
+  pub here : k < n → typeBucket b k ≡ bucketOf type
+
 module _ (b type : List ℕ) (n : ℕ) (t : List ℕ) (c : Indexed b n t) where
   -- the instances in the type's bucket
   abbrev inside : ℕ → Bool
   inside k = eqb (typeBucket b k) (bucketOf type)
 
-  -- k is the end or in the bucket
-  pub record OnChain (k : ℕ) : Type 0 where
-    pub to : k ≤ n
-    pub here : k < n → typeBucket b k ≡ bucketOf type
-
-  on-chain : (j k : ℕ) → First inside j n k → OnChain k
+  on-chain : (j k : ℕ) → First inside j n k → OnChain b type n k
   on-chain j k f = record { to = f .to; here = λ h. eqb-true _ _ (f .hits h) }
 
-  -- the head, and from one on the chain the next
-  start : bucketOf type < 4096 → First inside 0 n (getD t (bucketOf type) 0)
-  start l = c .head (bucketOf type) l
+  -- r is the head at h, the type's bucket; or what comes next behind k, an instance on the chain
+  head-first : (h r : ℕ) → h ≡ bucketOf type → h < 4096 → r ≡ getD t h 0 → First inside 0 n r
+  head-first h r e l d = rw (d, e) (c .head (bucketOf type) (rw (← e) l))
 
-  further : (k : ℕ) → k < n → OnChain k → First inside (k + 1) n (getD t (4096 + 2 * k) 0)
-  further k h o = rw (add-one k, ← o .here h) (c .link k (omega arith) h)
+  next-first : (k r : ℕ) → k < n → OnChain b type n k → r ≡ getD t (4096 + 2 * k) 0 → First inside (k + 1) n r
+  next-first k r h o d =
+      rw (add-one, d)
+      (subst (λ (x : ℕ). First (λ i. eqb (typeBucket b i) x) (suc k) n (getD t (4096 + 2 * k) 0)) (o .here h) (c .link k (omega arith) h))
 
-  pub chain-start : bucketOf type < 4096 → OnChain (getD t (bucketOf type) 0)
-  chain-start l = on-chain 0 (getD t (bucketOf type) 0) (start l)
+  pub chain-head : (h r : ℕ) → h ≡ bucketOf type → h < 4096 → r ≡ getD t h 0 → OnChain b type n r
+  chain-head h r e l d = on-chain 0 r (head-first h r e l d)
 
-  pub chain-next : (k : ℕ) → k < n → OnChain k → OnChain (getD t (4096 + 2 * k) 0)
-  chain-next k h o = on-chain (k + 1) (getD t (4096 + 2 * k) 0) (further k h o)
-
-  pub chain-rises : (k : ℕ) → k < n → OnChain k → k < getD t (4096 + 2 * k) 0
-  chain-rises k h o = let l = further k h o .from in omega arith
+  pub chain-next : (k r : ℕ) → k < n → OnChain b type n k → r ≡ getD t (4096 + 2 * k) 0 → OnChain b type n r × (k < r)
+  chain-next k r h o d = let f = next-first k r h o d in let l = f .from in (on-chain (k + 1) r f, omega arith)
 
   module _ {A : Type 0} (g : ℕ → A) (same : (k : ℕ) → typed b type k ≡ false → g (k + 1) ≡ g k) where
-    pub skip-start : bucketOf type < 4096 → g (getD t (bucketOf type) 0) ≡ g 0
-    skip-start l = passed g inside (typed b type) same (other-bucket b type) 0 n (getD t (bucketOf type) 0) (start l)
+    pub skip-head : (h r : ℕ) → h ≡ bucketOf type → h < 4096 → r ≡ getD t h 0 → g r ≡ g 0
+    skip-head h r e l d = passed g inside (typed b type) same (other-bucket b type) 0 n r (head-first h r e l d)
 
-    pub skip-next : (k : ℕ) → k < n → OnChain k → g (getD t (4096 + 2 * k) 0) ≡ g (k + 1)
-    skip-next k h o = passed g inside (typed b type) same (other-bucket b type) (k + 1) n (getD t (4096 + 2 * k) 0) (further k h o)
+    pub skip-next : (k r : ℕ) → k < n → OnChain b type n k → r ≡ getD t (4096 + 2 * k) 0 → g r ≡ g (k + 1)
+    skip-next k r h o d = passed g inside (typed b type) same (other-bucket b type) (k + 1) n r (next-first k r h o d)
 
 pub least-same : (hit : ℕ → Bool) (refusal : ℕ → ℕ) (k : ℕ) → hit k ≡ false → leastOf hit refusal (k + 1) ≡ leastOf hit refusal k
 least-same hit refusal k h = sym (least-without hit k refusal _ h refl)
