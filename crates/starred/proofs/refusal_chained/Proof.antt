@@ -1,3 +1,5 @@
+-- `starred::refusal_chained` meets its contract. Invariant: the least refusal in the instances before k that are of the type, and k is on the type's chain.
+-- Assumes nothing.
 use Rattle.starred.specs.Skips.{OnChain, chain-head, chain-next, skip-head, skip-next, least-same}
 use Rattle.applying.specs.Bytes.{leastOf, refusalEvery}
 use Rattle.apply.specs.Turns.{least-with, least-without, typed, type-is, refusesIn}
@@ -12,13 +14,6 @@ use mathlib.Core.Path.{_≡_, refl, sym, _∙_, ap}
 use Prim.Native.Nat.{ℕ, _+_, _*_, _-_, _≤_, _<_}
 use Rattle.starred.proofs.refusal_chained.Statement.{statement}
 use Rattle.starred.proofs.refusal_chained.Tie as tie
-use Rattle.starred.proofs.refusal_chained.Reads as reads
-use Rattle.starred.proofs.refusal_chained.Lts as lts
-use Rattle.amounts.proofs.lesser_of.Reads as lesser-of-reads
-use Rattle.apply.proofs.is_of.Reads as is-of-reads
-use Rattle.apply.proofs.refusal_in.Reads as refusal-in-reads
-use Rattle.bytype.proofs.bucket_of.Reads as bucket-of-reads
-use Rattle.starred.proofs.widen.Reads as widen-reads
 
 abbrev Inv-loop : tie.InvT-loop
 Inv-loop start text plan entry rows marks index out celltype least₀ bucket k₀ least k = OnChain start celltype (plan .instances) k
@@ -27,23 +22,18 @@ Inv-loop start text plan entry rows marks index out celltype least₀ bucket k�
 abbrev μ-loop : tie.MeasureT-loop
 μ-loop start text plan entry rows marks index out celltype least₀ bucket k₀ least k = plan .instances - k
 
--- src/lib.rt:37:9
 bucket-of-requires : tie.Need-bucket-of-requires Inv-loop μ-loop
 bucket-of-requires c κs = search needs
 
--- src/lib.rt:38:23
 mul-widen : tie.Need-mul-widen Inv-loop μ-loop
 mul-widen c = omega (arith, (c .bucket-of) .ensures .1)
 
--- src/lib.rt:38:23
 element-copy-out-widen : tie.Need-element-copy-out-widen Inv-loop μ-loop
 element-copy-out-widen c = omega (arith, (c .bucket-of) .ensures .1)
 
--- src/lib.rt:38:9
 widen-requires : tie.Need-widen-requires Inv-loop μ-loop
 widen-requires c κs = search needs
 
--- src/lib.rt:39:5
 loop-holds : tie.Need-loop-holds Inv-loop μ-loop
 unfolding leastOf
 loop-holds c = let b = now ((c .before .before .before .before .before .before .before .args) .start) in
@@ -55,68 +45,53 @@ loop-holds c = let b = now ((c .before .before .before .before .before .before .
     (chain-head b type n t ((c .before .before .before .before .before .before .before .pre) .2) _ _ ((c .before .before .bucket-of) .ensures .0) ((c .before .before .bucket-of) .ensures .1) ((c .widen) .ensures),
     sym (skip-head b type n t ((c .before .before .before .before .before .before .before .pre) .2) (leastOf test refusal) (least-same test refusal) _ _ ((c .before .before .bucket-of) .ensures .0) ((c .before .before .bucket-of) .ensures .1) ((c .widen) .ensures)))
 
--- src/lib.rt:40:39
 mul-widen-2 : tie.Need-mul-widen-2 Inv-loop μ-loop
 mul-widen-2 c = omega (arith, (c .before .before .before .before .before .before .before .before .before .before .pre) .1, (c .if1) .taken)
 
--- src/lib.rt:40:32
 add-widen : tie.Need-add-widen Inv-loop μ-loop
 add-widen c = omega (arith, (c .before .before .before .before .before .before .before .before .before .before .pre) .1, (c .if1) .taken)
 
--- src/lib.rt:40:26
 mul-widen-3 : tie.Need-mul-widen-3 Inv-loop μ-loop
 mul-widen-3 c = omega (arith, (c .before .before .before .before .before .before .before .before .before .before .pre) .1, (c .if1) .taken)
 
--- src/lib.rt:40:26
 element-copy-out-widen-2 : tie.Need-element-copy-out-widen-2 Inv-loop μ-loop
 element-copy-out-widen-2 c = omega (arith, (c .before .before .before .before .before .before .before .before .before .before .pre) .1, (c .if1) .taken)
 
--- src/lib.rt:40:13
 widen-requires-2 : tie.Need-widen-requires-2 Inv-loop μ-loop
 widen-requires-2 c κs = search needs
 
--- src/lib.rt:41:12
 is-of-requires : tie.Need-is-of-requires Inv-loop μ-loop
 is-of-requires c κs = let e = (c .widen2) .ensures ∙ (c .before .before .before .before .before .before .before .before .before .before .before .before .pre) .2 .spots ((c .before .before .before .before .loop) .k) (omega (arith, (c .before .before .if1) .taken)) in
     rw e (in-there (now ((c .before .before .before .before .before .before .before .before .before .before .before .before .args) .start)) ((c .before .before .before .before .loop) .k) ((c .before .before .before .before .before .before .before .before .before .before .before .before .args) .plan .instances) 12 (omega (arith, (c .before .before .if1) .taken)) ((c .before .before .before .before .before .before .before .before .before .before .before .before .pre) .0 .instances) .1)
 
--- src/lib.rt:44:17
 refusal-in-requires : tie.Need-refusal-in-requires Inv-loop μ-loop
 refusal-in-requires c κs = let e = (c .before .before .widen2) .ensures ∙ (c .before .before .before .before .before .before .before .before .before .before .before .before .before .before .pre) .2 .spots ((c .before .before .before .before .before .before .loop) .k) (omega (arith, (c .before .before .before .before .if1) .taken)) in
     let whole = in-there (now ((c .before .before .before .before .before .before .before .before .before .before .before .before .before .before .args) .start)) ((c .before .before .before .before .before .before .loop) .k) ((c .before .before .before .before .before .before .before .before .before .before .before .before .before .before .args) .plan .instances) 12 (omega (arith, (c .before .before .before .before .if1) .taken)) ((c .before .before .before .before .before .before .before .before .before .before .before .before .before .before .pre) .0 .instances) .1 in
     (record { arcs = (c .before .before .before .before .before .before .before .before .before .before .before .before .before .before .pre) .0 .search .good; long = (c .before .before .before .before .before .before .before .before .before .before .before .before .before .before .pre) .0 .long; there = rw e whole }, (c .before .before .before .before .before .before .before .before .before .before .before .before .before .before .pre) .0 .search)
 
--- src/lib.rt:42:13
 lesser-of-requires : tie.Need-lesser-of-requires Inv-loop μ-loop
 lesser-of-requires c κs = search needs
 
--- src/lib.rt:47:32
 mul-widen-4 : tie.Need-mul-widen-4 Inv-loop μ-loop
 mul-widen-4 c = omega (arith, (c .before .before .before .before .before .before .before .before .before .before .before .before .before .before .pre) .1, (c .before .before .before .before .if1) .taken)
 
--- src/lib.rt:47:25
 add-widen-2 : tie.Need-add-widen-2 Inv-loop μ-loop
 add-widen-2 c = omega (arith, (c .before .before .before .before .before .before .before .before .before .before .before .before .before .before .pre) .1, (c .before .before .before .before .if1) .taken)
 
--- src/lib.rt:47:19
 mul-widen-5 : tie.Need-mul-widen-5 Inv-loop μ-loop
 mul-widen-5 c = omega (arith, (c .before .before .before .before .before .before .before .before .before .before .before .before .before .before .pre) .1, (c .before .before .before .before .if1) .taken)
 
--- src/lib.rt:47:19
 element-copy-out-widen-3 : tie.Need-element-copy-out-widen-3 Inv-loop μ-loop
 element-copy-out-widen-3 c = omega (arith, (c .before .before .before .before .before .before .before .before .before .before .before .before .before .before .pre) .1, (c .before .before .before .before .if1) .taken)
 
--- src/lib.rt:47:9
 widen-requires-3 : tie.Need-widen-requires-3 Inv-loop μ-loop
 widen-requires-3 c κs = search needs
 
--- src/lib.rt:39:5
 loop-less : tie.Need-loop-less Inv-loop μ-loop
 loop-less c = let s = chain-next (now ((c .before .before .before .before .before .before .before .before .before .before .before .before .before .before .before .before .args) .start)) (now ((c .before .before .before .before .before .before .before .before .before .before .before .before .before .before .before .before .args) .celltype)) ((c .before .before .before .before .before .before .before .before .before .before .before .before .before .before .before .before .args) .plan .instances) (now ((c .before .before .before .before .before .before .before .before .before .before .before .before .before .before .before .before .args) .index)) ((c .before .before .before .before .before .before .before .before .before .before .before .before .before .before .before .before .pre) .2) ((c .before .before .before .before .before .before .before .before .loop) .k) _
     (omega (arith, (c .before .before .before .before .before .before .if1) .taken)) ((c .before .before .before .before .before .before .before .before .loop) .inv .0) ((c .widen3) .ensures) in
     omega (arith, s .1, (c .before .before .before .before .before .before .if1) .taken)
 
--- src/lib.rt:39:5
 loop-again : tie.Need-loop-again Inv-loop μ-loop
 loop-again c = let b = now ((c .before .before .before .before .before .before .before .before .before .before .before .before .before .before .before .before .args) .start) in
     let type = now ((c .before .before .before .before .before .before .before .before .before .before .before .before .before .before .before .before .args) .celltype) in
@@ -134,7 +109,6 @@ loop-again c = let b = now ((c .before .before .before .before .before .before .
     (λ w. least-without test (l .k) refusal _ (is ∙ w .0 .left) (w .1 ∙ l .inv .1) ∙ sym skip)
     ((c .before .before .if2) .came))
 
--- src/lib.rt:20:1
 returns : tie.Need-returns Inv-loop μ-loop
 unfolding refusalEvery
 returns c = let e : (c .before .before .loop) .k ≡ (c .before .before .before .before .before .before .before .before .before .before .args) .plan .instances = omega (arith, (c .before .before .loop) .inv .0 .to, (c .if1) .left) in

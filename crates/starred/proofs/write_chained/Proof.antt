@@ -1,3 +1,5 @@
+-- `starred::write_chained` meets its contract. Invariant: what is made of the sheet in the instances before k that are of the type is written, and k is on the type's chain.
+-- Assumes nothing.
 use Rattle.starred.specs.Skips.{OnChain, chain-head, chain-next, skip-head, skip-next, written-same}
 use Rattle.applying.specs.Bytes.{writtenOf, writtenEvery}
 use Rattle.apply.specs.Turns.{written-with, written-without, typed, type-is, writesIn}
@@ -12,12 +14,6 @@ use mathlib.Core.Path.{_≡_, refl, sym, _∙_, ap}
 use Prim.Native.Nat.{ℕ, _+_, _*_, _-_, _≤_, _<_}
 use Rattle.starred.proofs.write_chained.Statement.{statement}
 use Rattle.starred.proofs.write_chained.Tie as tie
-use Rattle.starred.proofs.write_chained.Reads as reads
-use Rattle.starred.proofs.write_chained.Lts as lts
-use Rattle.apply.proofs.is_of.Reads as is-of-reads
-use Rattle.apply.proofs.write_in.Reads as write-in-reads
-use Rattle.bytype.proofs.bucket_of.Reads as bucket-of-reads
-use Rattle.starred.proofs.widen.Reads as widen-reads
 
 abbrev Inv-loop : tie.InvT-loop
 Inv-loop start text plan entry rows marks index out₀ celltype bucket k₀ out k = OnChain start celltype (plan .instances) k
@@ -27,23 +23,18 @@ Inv-loop start text plan entry rows marks index out₀ celltype bucket k₀ out 
 abbrev μ-loop : tie.MeasureT-loop
 μ-loop start text plan entry rows marks index out₀ celltype bucket k₀ out k = plan .instances - k
 
--- src/lib.rt:69:9
 bucket-of-requires : tie.Need-bucket-of-requires Inv-loop μ-loop
 bucket-of-requires c κs = search needs
 
--- src/lib.rt:70:23
 mul-widen : tie.Need-mul-widen Inv-loop μ-loop
 mul-widen c = omega (arith, (c .bucket-of) .ensures .1)
 
--- src/lib.rt:70:23
 element-copy-out-widen : tie.Need-element-copy-out-widen Inv-loop μ-loop
 element-copy-out-widen c = omega (arith, (c .bucket-of) .ensures .1)
 
--- src/lib.rt:70:9
 widen-requires : tie.Need-widen-requires Inv-loop μ-loop
 widen-requires c κs = search needs
 
--- src/lib.rt:71:5
 loop-holds : tie.Need-loop-holds Inv-loop μ-loop
 unfolding writtenOf
 loop-holds c = let b = now ((c .before .before .before .before .before .before .before .args) .start) in
@@ -57,64 +48,50 @@ loop-holds c = let b = now ((c .before .before .before .before .before .before .
     sym (skip-head b type n t ((c .before .before .before .before .before .before .before .pre) .2) (writtenOf test write out) (written-same test write out) _ _ ((c .before .before .bucket-of) .ensures .0) ((c .before .before .bucket-of) .ensures .1) ((c .widen) .ensures)),
     refl)
 
--- src/lib.rt:72:39
 mul-widen-2 : tie.Need-mul-widen-2 Inv-loop μ-loop
 mul-widen-2 c = omega (arith, (c .before .before .before .before .before .before .before .before .before .before .pre) .1, (c .if1) .taken)
 
--- src/lib.rt:72:32
 add-widen : tie.Need-add-widen Inv-loop μ-loop
 add-widen c = omega (arith, (c .before .before .before .before .before .before .before .before .before .before .pre) .1, (c .if1) .taken)
 
--- src/lib.rt:72:26
 mul-widen-3 : tie.Need-mul-widen-3 Inv-loop μ-loop
 mul-widen-3 c = omega (arith, (c .before .before .before .before .before .before .before .before .before .before .pre) .1, (c .if1) .taken)
 
--- src/lib.rt:72:26
 element-copy-out-widen-2 : tie.Need-element-copy-out-widen-2 Inv-loop μ-loop
 element-copy-out-widen-2 c = omega (arith, (c .before .before .before .before .before .before .before .before .before .before .pre) .1, (c .if1) .taken)
 
--- src/lib.rt:72:13
 widen-requires-2 : tie.Need-widen-requires-2 Inv-loop μ-loop
 widen-requires-2 c κs = search needs
 
--- src/lib.rt:73:12
 is-of-requires : tie.Need-is-of-requires Inv-loop μ-loop
 is-of-requires c κs = let e = (c .widen2) .ensures ∙ (c .before .before .before .before .before .before .before .before .before .before .before .before .pre) .2 .spots ((c .before .before .before .before .loop) .k) (omega (arith, (c .before .before .if1) .taken)) in
     rw e (in-there (now ((c .before .before .before .before .before .before .before .before .before .before .before .before .args) .start)) ((c .before .before .before .before .loop) .k) ((c .before .before .before .before .before .before .before .before .before .before .before .before .args) .plan .instances) 12 (omega (arith, (c .before .before .if1) .taken)) ((c .before .before .before .before .before .before .before .before .before .before .before .before .pre) .0 .instances) .1)
 
--- src/lib.rt:74:13
 write-in-requires : tie.Need-write-in-requires Inv-loop μ-loop
 write-in-requires c κs = let e = (c .before .before .before .widen2) .ensures ∙ (c .before .before .before .before .before .before .before .before .before .before .before .before .before .before .before .pre) .2 .spots ((c .before .before .before .before .before .before .before .loop) .k) (omega (arith, (c .before .before .before .before .before .if1) .taken)) in
     let whole = in-there (now ((c .before .before .before .before .before .before .before .before .before .before .before .before .before .before .before .args) .start)) ((c .before .before .before .before .before .before .before .loop) .k) ((c .before .before .before .before .before .before .before .before .before .before .before .before .before .before .before .args) .plan .instances) 12 (omega (arith, (c .before .before .before .before .before .if1) .taken)) ((c .before .before .before .before .before .before .before .before .before .before .before .before .before .before .before .pre) .0 .instances) .1 in
     (record { arcs = (c .before .before .before .before .before .before .before .before .before .before .before .before .before .before .before .pre) .0 .search .good; long = (c .before .before .before .before .before .before .before .loop) .inv .2 ∙ (c .before .before .before .before .before .before .before .before .before .before .before .before .before .before .before .pre) .0 .long; there = rw e whole }, (c .before .before .before .before .before .before .before .before .before .before .before .before .before .before .before .pre) .0 .search)
 
--- src/lib.rt:76:32
 mul-widen-4 : tie.Need-mul-widen-4 Inv-loop μ-loop
 mul-widen-4 c = omega (arith, (c .before .before .before .before .before .before .before .before .before .before .before .before .before .before .pre) .1, (c .before .before .before .before .if1) .taken)
 
--- src/lib.rt:76:25
 add-widen-2 : tie.Need-add-widen-2 Inv-loop μ-loop
 add-widen-2 c = omega (arith, (c .before .before .before .before .before .before .before .before .before .before .before .before .before .before .pre) .1, (c .before .before .before .before .if1) .taken)
 
--- src/lib.rt:76:19
 mul-widen-5 : tie.Need-mul-widen-5 Inv-loop μ-loop
 mul-widen-5 c = omega (arith, (c .before .before .before .before .before .before .before .before .before .before .before .before .before .before .pre) .1, (c .before .before .before .before .if1) .taken)
 
--- src/lib.rt:76:19
 element-copy-out-widen-3 : tie.Need-element-copy-out-widen-3 Inv-loop μ-loop
 element-copy-out-widen-3 c = omega (arith, (c .before .before .before .before .before .before .before .before .before .before .before .before .before .before .pre) .1, (c .before .before .before .before .if1) .taken)
 
--- src/lib.rt:76:9
 widen-requires-3 : tie.Need-widen-requires-3 Inv-loop μ-loop
 widen-requires-3 c κs = search needs
 
--- src/lib.rt:71:5
 loop-less : tie.Need-loop-less Inv-loop μ-loop
 loop-less c = let s = chain-next (now ((c .before .before .before .before .before .before .before .before .before .before .before .before .before .before .before .before .args) .start)) (now ((c .before .before .before .before .before .before .before .before .before .before .before .before .before .before .before .before .args) .celltype)) ((c .before .before .before .before .before .before .before .before .before .before .before .before .before .before .before .before .args) .plan .instances) (now ((c .before .before .before .before .before .before .before .before .before .before .before .before .before .before .before .before .args) .index)) ((c .before .before .before .before .before .before .before .before .before .before .before .before .before .before .before .before .pre) .2) ((c .before .before .before .before .before .before .before .before .loop) .k) _
     (omega (arith, (c .before .before .before .before .before .before .if1) .taken)) ((c .before .before .before .before .before .before .before .before .loop) .inv .0) ((c .widen3) .ensures) in
     omega (arith, s .1, (c .before .before .before .before .before .before .if1) .taken)
 
--- src/lib.rt:71:5
 loop-again : tie.Need-loop-again Inv-loop μ-loop
 loop-again c = let b = now ((c .before .before .before .before .before .before .before .before .before .before .before .before .before .before .before .before .args) .start) in
     let type = now ((c .before .before .before .before .before .before .before .before .before .before .before .before .before .before .before .before .args) .celltype) in
@@ -134,11 +111,9 @@ loop-again c = let b = now ((c .before .before .before .before .before .before .
     (λ w. (on, written-without test (l .k) write out _ (is ∙ w .0 .left) (w .1 ∙ l .inv .1) ∙ sym skip, ap length (w .1) ∙ l .inv .2))
     ((c .before .before .if2) .came)
 
--- src/lib.rt:53:1
 same-length : tie.Need-same-length Inv-loop μ-loop
 same-length c = (c .before .before .loop) .inv .2
 
--- src/lib.rt:53:1
 returns : tie.Need-returns Inv-loop μ-loop
 unfolding writtenEvery
 returns c = let e : (c .before .before .loop) .k ≡ (c .before .before .before .before .before .before .before .before .before .before .args) .plan .instances = omega (arith, (c .before .before .loop) .inv .0 .to, (c .if1) .left) in
