@@ -5,6 +5,7 @@ ghost use lib.ListN.{length, getD};
 ghost use Rattle.sheetform.specs.Form.{checkOf};
 ghost use Rattle.sheetform.specs.declared.SheetCheck.the-variants.{Good};
 ghost use Rattle.sheet.specs.Find.{InstanceSearch};
+ghost use Rattle.bytype.specs.ByType.{IndexReady};
 ghost use Rattle.applying.specs.Ready.{Ready};
 ghost use Rattle.annotate.specs.Whom.{whomOf, InSheet};
 ghost use Rattle.annotate.specs.Entries.{refusalFor, appliedFor, EntriesRun};
@@ -69,6 +70,7 @@ fn apply_entry(
     text: &[u8],
     plan: Plan,
     marks: &[u32; 4096],
+    index: &[u32; 135168],
     entries: &[u64],
     row: usize,
     whom: Whom,
@@ -76,7 +78,7 @@ fn apply_entry(
     out: &mut [u8],
 ) -> u8
     requires { ⌜ (Ready (now start) (plan .instances) (plan .arcs) (plan .first) (now marks) (now out)) × (row + 28 ≤ length (now entries))
-        × InSheet (now start) whom ⌝ }
+        × (InSheet (now start) whom) × IndexReady (now start) (plan .instances) (now index) ⌝ }
     ensures { λ r. ⌜ (r ≡ refusalFor (now (start .entry)) (now (text .entry)) (plan .slash) (plan .instances) (plan .arcs) (plan .first)
         (now (entries .entry)) row whom (now (celltype .entry)) (now (out .entry)))
         × (now (out .exit) ≡ appliedFor (now (start .entry)) (now (text .entry)) (plan .slash) (plan .instances) (plan .arcs) (plan .first)
@@ -95,7 +97,17 @@ fn apply_entry(
             out,
             instance,
         ),
-        Whom::Every => apply::apply_every(start, text, plan, entry, rows, marks, out, celltype),
+        Whom::Every => starred::apply_typed(
+            start,
+            text,
+            plan,
+            entry,
+            rows,
+            marks,
+            index,
+            out,
+            celltype,
+        ),
         Whom::Nobody(number) => 0,
     }
 }
@@ -106,6 +118,7 @@ fn apply_entries(
     text: &[u8],
     plan: Plan,
     marks: &[u32; 4096],
+    index: &[u32; 135168],
     entries: &[u64],
     first: usize,
     count: usize,
@@ -114,7 +127,8 @@ fn apply_entries(
     out: &mut [u8],
 ) -> Annotated
     requires { ⌜ (Ready (now start) (plan .instances) (plan .arcs) (plan .first) (now marks) (now out))
-        × (28 * (first + count) ≤ length (now entries)) × InSheet (now start) whom ⌝ }
+        × (28 * (first + count) ≤ length (now entries)) × (InSheet (now start) whom)
+        × IndexReady (now start) (plan .instances) (now index) ⌝ }
     ensures { λ r. ⌜ (length (now (out .exit)) ≡ length (now (out .entry)))
         × EntriesRun (now (start .entry)) (now (text .entry)) (plan .slash) (plan .instances) (plan .arcs) (plan .first) (now (entries .entry))
         first count whom (now (celltype .entry)) (now (out .entry)) (now (out .exit)) r ⌝ }
@@ -122,7 +136,18 @@ fn apply_entries(
     let mut k = 0;
     while k < count {
         let row = ENTRY_WORDS * (first + k);
-        let number = apply_entry(start, text, plan, marks, entries, row, whom, celltype, out);
+        let number = apply_entry(
+            start,
+            text,
+            plan,
+            marks,
+            index,
+            entries,
+            row,
+            whom,
+            celltype,
+            out,
+        );
         if number != 0 {
             return Annotated::Refused {
                 number: number,
@@ -141,6 +166,7 @@ fn apply_cell(
     plan: Plan,
     places: &[u32; 4096],
     marks: &[u32; 4096],
+    index: &[u32; 135168],
     cells: &[u64],
     row: usize,
     entries: &[u64],
@@ -149,7 +175,8 @@ fn apply_cell(
 ) -> Annotated
     requires { ⌜ (Ready (now start) (plan .instances) (plan .arcs) (plan .first) (now marks) (now out))
         × (InstanceSearch (now start) (plan .instances) 12 (now places)) × (row + 7 ≤ length (now cells))
-        × (28 * (first + getD (now cells) (row + 6) 0) ≤ length (now entries)) ⌝ }
+        × (28 * (first + getD (now cells) (row + 6) 0) ≤ length (now entries))
+        × IndexReady (now start) (plan .instances) (now index) ⌝ }
     ensures { λ r. ⌜ (length (now (out .exit)) ≡ length (now (out .entry)))
         × CellRun (now (start .entry)) (now (text .entry)) (plan .slash) (plan .instances) (plan .arcs) (plan .first) (now (cells .entry)) row
         (now (entries .entry)) first (now (out .entry)) (now (out .exit)) r ⌝ }
@@ -168,6 +195,7 @@ fn apply_cell(
                 text,
                 plan,
                 marks,
+                index,
                 entries,
                 first,
                 cell.entries,
@@ -181,6 +209,7 @@ fn apply_cell(
             text,
             plan,
             marks,
+            index,
             entries,
             first,
             cell.entries,
@@ -198,6 +227,7 @@ fn apply_cells(
     plan: Plan,
     places: &[u32; 4096],
     marks: &[u32; 4096],
+    index: &[u32; 135168],
     cells: &[u64],
     count: usize,
     entries: &[u64],
@@ -205,7 +235,8 @@ fn apply_cells(
 ) -> Annotated
     requires { ⌜ (Ready (now start) (plan .instances) (plan .arcs) (plan .first) (now marks) (now out))
         × (InstanceSearch (now start) (plan .instances) 12 (now places)) × (7 * count ≤ length (now cells))
-        × (28 * entriesBefore (now cells) count ≤ length (now entries)) ⌝ }
+        × (28 * entriesBefore (now cells) count ≤ length (now entries))
+        × IndexReady (now start) (plan .instances) (now index) ⌝ }
     ensures { λ r. ⌜ (length (now (out .exit)) ≡ length (now (out .entry)))
         × CellsRun (now (start .entry)) (now (text .entry)) (plan .slash) (plan .instances) (plan .arcs) (plan .first) (now (cells .entry)) count
         (now (entries .entry)) (now (out .entry)) (now (out .exit)) r ⌝ }
@@ -220,6 +251,7 @@ fn apply_cells(
             plan,
             places,
             marks,
+            index,
             cells,
             row,
             entries,
@@ -281,6 +313,8 @@ fn apply_text(
     sheet::mark_instances(start, plan.instances, 12, &mut places);
     let mut marks = [0u32; 4096];
     sheet::mark_arcs(start, plan.arcs, plan.first, &mut marks);
+    let mut index = [0u32; 135168];
+    bytype::index_types(start, plan.instances, &mut index);
     copy_sheet(start, out);
     let went = apply_cells(
         start,
@@ -288,6 +322,7 @@ fn apply_text(
         plan,
         &places,
         &marks,
+        &index,
         cells,
         count,
         entries,

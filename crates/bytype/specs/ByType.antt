@@ -44,6 +44,10 @@ typeBucket b k = bucketOf (typeAt b (spotOf b k))
 abbrev pub Indexed : List ℕ → ℕ → List ℕ → Type 0
 Indexed b n t = Chained (typeBucket b) (spotOf b) n 0 t
 
+-- it is, where the table has room for them
+abbrev pub IndexReady : List ℕ → ℕ → List ℕ → Type 0
+IndexReady b n t = n ≤ 65536 → Indexed b n t
+
 -- an instance of another bucket than a type's is not of that type
 pub other-bucket : (b type : List ℕ) (k : ℕ) → eqb (typeBucket b k) (bucketOf type) ≡ false → sameText (typeAt b (spotOf b k)) type ≡ false
 unfolding sameText

@@ -5,7 +5,7 @@ ghost use lib.ListN.{length, getD};
 ghost use Rattle.sheetlaws.specs.Sheet.{inEnd};
 ghost use Rattle.sheet.specs.Find.{InsGood};
 ghost use Rattle.bytype.specs.Chains.{Noted, headPlace, spotPlace, Chained};
-ghost use Rattle.bytype.specs.ByType.{bucketOf, typeBucket, spotOf, Indexed};
+ghost use Rattle.bytype.specs.ByType.{bucketOf, typeBucket, spotOf, Indexed, IndexReady};
 
 // How many buckets there are. Their heads stand first in the table.
 const BUCKETS: usize = 4096;
@@ -87,7 +87,7 @@ fn chain(sheet: &[u8], count: usize, index: &mut [u32; 135168])
 // The index of a sheet's instances, where the table has room for them.
 pub fn index_types(sheet: &[u8], count: usize, index: &mut [u32; 135168])
     requires { ⌜ (InsGood (now sheet) count 12) × (length (now sheet) ≤ 16777216) × (length (now index) ≡ 135168) ⌝ }
-    ensures { λ _. ⌜ (count ≤ 65536 → Indexed (now (sheet .entry)) count (now (index .exit))) ⌝ }
+    ensures { λ _. ⌜ IndexReady (now (sheet .entry)) count (now (index .exit)) ⌝ }
 {
     if MOST < count {
         return;

@@ -1,7 +1,7 @@
 // An entry of a `*` cell: applied in every instance of the cell's type, by the index of the instances by type.
 ghost use mathlib.Core.Path.{_≡_};
 ghost use Prim.Native.Nat.{_≤_};
-ghost use Rattle.bytype.specs.ByType.{Indexed};
+ghost use Rattle.bytype.specs.ByType.{Indexed, IndexReady};
 ghost use Rattle.applying.specs.Bytes.{refusalEvery, writtenEvery, appliedEvery};
 ghost use Rattle.applying.specs.Ready.{Ready};
 use apply::Plan;
@@ -91,7 +91,7 @@ pub fn apply_typed(
     celltype: &[u8],
 ) -> u8
     requires { ⌜ (Ready (now start) (plan .instances) (plan .arcs) (plan .first) (now marks) (now out))
-        × (plan .instances ≤ 65536 → Indexed (now start) (plan .instances) (now index)) ⌝ }
+        × IndexReady (now start) (plan .instances) (now index) ⌝ }
     ensures { λ r. ⌜ (r ≡ refusalEvery (now (start .entry)) (now (text .entry)) (plan .slash) (plan .instances) (plan .arcs) (plan .first) entry rows
         (now (out .entry)) (now (celltype .entry)))
         × (now (out .exit) ≡ appliedEvery (now (start .entry)) (now (text .entry)) (plan .slash) (plan .instances) (plan .arcs) (plan .first) entry

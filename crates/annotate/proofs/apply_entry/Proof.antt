@@ -37,8 +37,10 @@ apply-in-requires c κs =
 enum-told : tie.Need-enum-told
 enum-told c = search needs
 
-apply-every-requires : tie.Need-apply-every-requires
-apply-every-requires c κs = search needs
+apply-typed-requires : tie.Need-apply-typed-requires
+apply-typed-requires c κs =
+    let pre = c .before .before .before .before .before .before .before .before .before .before .before .before .pre in
+    (pre .0, pre .3)
 
 enum-known-whom-2 : tie.Need-enum-known-whom-2
 enum-known-whom-2 c = search needs
@@ -64,8 +66,8 @@ returns-2 c =
     let enum-told = c .before .before .before .before .enum-told in
     let head-at = c .before .before .before .before .before .before .before .before .before .head-at in
     let expand = c .before .before .before .before .before .before .expand in
-    let apply-every = c .before .before .apply-every in
-    rw (enum-told .given .1, ← head-at .ensures, ← expand .ensures) (apply-every .ensures)
+    let apply-typed = c .before .before .apply-typed in
+    rw (enum-told .given .1, ← head-at .ensures, ← expand .ensures) (apply-typed .ensures)
 
 returns-3 : tie.Need-returns-3
 unfolding refusalFor appliedFor
@@ -86,7 +88,7 @@ apply-entry-spec =
     enum-known-whom
     apply-in-requires
     enum-told
-    apply-every-requires
+    apply-typed-requires
     enum-known-whom-2
     same-length
     returns
