@@ -39,7 +39,7 @@ const INSTANCES: usize = 12;
 const LACKING: u8 = 14;
 
 // Whether DEVICE means the arc at a place, in the instance at another.
-fn device_hit(
+pub fn device_hit(
     start: &[u8],
     text: &[u8],
     slash: bool,

@@ -8,13 +8,13 @@ use native.Mathlib.Nat.{mod-lt}
 use native.Mathlib.Numerals.{add-one}
 use native.Mathlib.Omega.{arith}
 use lib.Dec.{eqb}
-use lib.ListN.{length, getD}
+use lib.ListN.{length, getD, set}
 use borrow.Author.Tests.{eqb-true, eqb-false}
 use Rattle.names.specs.Order.{cmp, sameText}
 use Rattle.names.specs.Orders.{cmp-1}
 use Rattle.sheetform.specs.Form.{typeAt}
 use Rattle.sheetlaws.specs.Sheet.{inEnd, nth}
-use Rattle.bytype.specs.Chains.{Chained}
+use Rattle.bytype.specs.Chains.{Chained, Noted, put-stays}
 
 -- the bucket of a text's first k bytes, and of the text
 unfoldable pub bucketTo : List ℕ → ℕ → ℕ
@@ -40,9 +40,26 @@ spotOf b k = nth (inEnd b) k 12
 abbrev pub typeBucket : List ℕ → ℕ → ℕ
 typeBucket b k = bucketOf (typeAt b (spotOf b k))
 
+-- for each instance the number of the next one in its bucket, and behind that its place
+abbrev pub linkPlace : ℕ → ℕ
+linkPlace i = 4096 + 2 * i
+
+abbrev pub spotPlace : ℕ → ℕ
+spotPlace i = 4097 + 2 * i
+
+pub links-far : (i : ℕ) → 4096 ≤ linkPlace i
+links-far i = omega arith
+
+pub links-apart : (i j : ℕ) → linkPlace i ≡ linkPlace j → i ≡ j
+links-apart i j e = omega arith
+
+pub spots-apart : (i j : ℕ) → spotPlace i ≡ spotPlace j → i ≡ j
+spots-apart i j e = omega arith
+
 -- the table t is the index of the n instances of the sheet b
-abbrev pub Indexed : List ℕ → ℕ → List ℕ → Type 0
-Indexed b n t = Chained (typeBucket b) (spotOf b) n 0 t
+pub record Indexed (b : List ℕ) (n : ℕ) (t : List ℕ) : Type 0 where
+  pub chain : Chained linkPlace (typeBucket b) n 0 t
+  pub spots : Noted spotPlace (spotOf b) n t
 
 -- it is, where the table has room for them
 abbrev pub IndexReady : List ℕ → ℕ → List ℕ → Type 0
@@ -56,3 +73,9 @@ other-bucket b type k e = by (eqb (cmp (typeAt b (spotOf b k)) type) 1) refl
     by : (u : Bool) → eqb (cmp (typeAt b (spotOf b k)) type) 1 ≡ u → u ≡ false
     by true z = absurd (eqb-false _ _ e (ap bucketOf (cmp-1 _ _ (eqb-true _ _ z))))
     by false z = refl
+
+-- the places stay where one instance more is put in front
+pub spots-stay : (b : List ℕ) (n k : ℕ) (t : List ℕ) (h : ℕ) → h < 4096 → linkPlace k < length t → Noted spotPlace (spotOf b) n t
+    → Noted spotPlace (spotOf b) n (set (set t (linkPlace k) (getD t h 0)) h k)
+spots-stay b n k t h l long s i g =
+    put-stays linkPlace (typeBucket b) n links-far links-apart k t h l long (spotPlace i) (λ q. omega arith) (λ q. omega arith) ∙ s i g

@@ -4,8 +4,8 @@ ghost use Prim.Native.Nat.{ℕ, _+_, _*_, _≤_, _<_};
 ghost use lib.ListN.{length, getD};
 ghost use Rattle.sheetlaws.specs.Sheet.{inEnd};
 ghost use Rattle.sheet.specs.Find.{InsGood};
-ghost use Rattle.bytype.specs.Chains.{Noted, headPlace, spotPlace, Chained};
-ghost use Rattle.bytype.specs.ByType.{bucketOf, typeBucket, spotOf, Indexed, IndexReady};
+ghost use Rattle.bytype.specs.Chains.{Noted, headPlace, Chained};
+ghost use Rattle.bytype.specs.ByType.{bucketOf, typeBucket, spotOf, linkPlace, spotPlace, Indexed, IndexReady};
 
 // How many buckets there are. Their heads stand first in the table.
 const BUCKETS: usize = 4096;
@@ -41,9 +41,9 @@ pub fn bucket_of(text: &[u8]) -> usize
     bucket
 }
 
-// The number of instances at every head: there is none in any bucket yet.
-fn clear_heads(count: usize, index: &mut [u32; 135168])
-    requires { ⌜ (count ≤ 65536) × (length (now index) ≡ 135168) ⌝ }
+// The number of things at every head: there is none in any bucket yet.
+pub fn clear_heads(count: usize, index: &mut [u32; 135168])
+    requires { ⌜ (count ≤ 131071) × (length (now index) ≡ 135168) ⌝ }
     ensures { λ _. ⌜ (length (now (index .exit)) ≡ 135168) × Noted headPlace (λ h. count) 4096 (now (index .exit)) ⌝ }
 {
     let mut k = 0;
@@ -71,7 +71,7 @@ fn note_spots(sheet: &[u8], count: usize, index: &mut [u32; 135168])
 // From the last instance to the first: the head of its bucket comes next behind it, and it is the head.
 fn chain(sheet: &[u8], count: usize, index: &mut [u32; 135168])
     requires { ⌜ (InsGood (now sheet) count 12) × (count ≤ 65536) × (length (now index) ≡ 135168)
-        × Chained (typeBucket (now sheet)) (spotOf (now sheet)) count count (now index) ⌝ }
+        × (Chained linkPlace (typeBucket (now sheet)) count count (now index)) × Noted spotPlace (spotOf (now sheet)) count (now index) ⌝ }
     ensures { λ _. ⌜ Indexed (now (sheet .entry)) count (now (index .exit)) ⌝ }
 {
     let mut k = count;

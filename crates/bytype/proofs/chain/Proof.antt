@@ -1,7 +1,7 @@
+use Rattle.bytype.specs.Chains.{Chained, Noted, chained-more}
+use Rattle.bytype.specs.ByType.{typeBucket, spotOf, bucketOf, linkPlace, spotPlace, links-far, links-apart, spots-stay}
 -- `bytype::chain` meets its contract. Invariant: the table is the index of the instances from k on.
 -- Assumes nothing.
-use Rattle.bytype.specs.Chains.{Chained, chained-more}
-use Rattle.bytype.specs.ByType.{typeBucket, spotOf, bucketOf}
 use Rattle.sheet.specs.Find.{in-there}
 use Rattle.sheetlaws.specs.Sheet.{inEnd, nth}
 use denote.Ref.{now}
@@ -14,13 +14,13 @@ use Rattle.bytype.proofs.chain.Statement.{statement}
 use Rattle.bytype.proofs.chain.Tie as tie
 
 abbrev Inv-loop : tie.InvT-loop
-Inv-loop sheet count index₀ k₀ index k = (k ≤ count) × Chained (typeBucket sheet) (spotOf sheet) count k index × (length index ≡ 135168)
+Inv-loop sheet count index₀ k₀ index k = (k ≤ count) × Chained linkPlace (typeBucket sheet) count k index × Noted spotPlace (spotOf sheet) count index × (length index ≡ 135168)
 
 abbrev μ-loop : tie.MeasureT-loop
 μ-loop sheet count index₀ k₀ index k = k
 
 loop-holds : tie.Need-loop-holds Inv-loop μ-loop
-loop-holds c = (omega arith, (c .before .pre) .3, (c .before .pre) .2)
+loop-holds c = (omega arith, (c .before .pre) .3, (c .before .pre) .4, (c .before .pre) .2)
 
 sub-k : tie.Need-sub-k Inv-loop μ-loop
 sub-k c = search needs
@@ -41,7 +41,7 @@ widen-requires : tie.Need-widen-requires Inv-loop μ-loop
 widen-requires c κs = search needs
 
 instance-type-requires : tie.Need-instance-type-requires Inv-loop μ-loop
-instance-type-requires c κs = let e = (c .widen) .ensures ∙ (c .before .before .before .loop) .inv .1 .spots ((c .before .before .before .loop) .k - 1) (omega arith) in
+instance-type-requires c κs = let e = (c .widen) .ensures ∙ (c .before .before .before .loop) .inv .2 ((c .before .before .before .loop) .k - 1) (omega arith) in
     rw e (in-there (now ((c .before .before .before .before .before .args) .sheet)) ((c .before .before .before .loop) .k - 1) ((c .before .before .before .before .before .args) .count) 12 (omega arith) ((c .before .before .before .before .before .pre) .0) .1)
 
 bucket-of-requires : tie.Need-bucket-of-requires Inv-loop μ-loop
@@ -80,14 +80,17 @@ loop-less c = search needs
 loop-again : tie.Need-loop-again Inv-loop μ-loop
 loop-again c = let l = (c .before .before .before .before .before .before .loop) in
     let b = now ((c .before .before .before .before .before .before .before .before .args) .sheet) in
-    let e = (c .before .before .before .widen) .ensures ∙ l .inv .1 .spots (l .k - 1) (omega arith) in
+    let e = (c .before .before .before .widen) .ensures ∙ l .inv .2 (l .k - 1) (omega arith) in
     let s : l .k ≡ suc (l .k - 1) = omega arith in
-    (omega arith, chained-more (typeBucket b) (spotOf b) ((c .before .before .before .before .before .before .before .before .args) .count) (l .k - 1) (l .index) ((c .before .bucket-of) .result) (rw s at (l .inv .1)) (omega arith)
-    ((c .before .bucket-of) .ensures .0 ∙ ap bucketOf ((c .before .before .instance-type) .ensures ∙ rw e refl)) ((c .before .bucket-of) .ensures .1) (omega arith), simp length-set (l .inv .2))
+    let h = (c .before .bucket-of) .ensures .1 in
+    let long : linkPlace (l .k - 1) < length (l .index) = omega arith in
+    (omega arith, chained-more linkPlace (typeBucket b) ((c .before .before .before .before .before .before .before .before .args) .count) links-far links-apart (l .k - 1) (l .index) ((c .before .bucket-of) .result) h long
+    (rw s at (l .inv .1)) (omega arith) ((c .before .bucket-of) .ensures .0 ∙ ap bucketOf ((c .before .before .instance-type) .ensures ∙ rw e refl)),
+    spots-stay b ((c .before .before .before .before .before .before .before .before .args) .count) (l .k - 1) (l .index) ((c .before .bucket-of) .result) h long (l .inv .2), simp length-set (l .inv .3))
 
 returns : tie.Need-returns Inv-loop μ-loop
 returns c = let e : (c .before .loop) .k ≡ 0 = omega arith in
-    rw e at ((c .before .loop) .inv .1)
+    record { chain = rw e at ((c .before .loop) .inv .1); spots = (c .before .loop) .inv .2 }
 
 pub chain-spec : {M : Type 1} → statement M
 chain-spec =

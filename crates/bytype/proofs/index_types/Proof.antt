@@ -1,7 +1,7 @@
+use Rattle.bytype.specs.Chains.{chained-none}
+use Rattle.bytype.specs.ByType.{typeBucket, linkPlace}
 -- `bytype::index_types` meets its contract.
 -- Assumes nothing.
-use Rattle.bytype.specs.Chains.{chained-none}
-use Rattle.bytype.specs.ByType.{typeBucket, spotOf}
 use denote.Ref.{now}
 use native.Mathlib.Omega.{arith}
 use mathlib.Core.Path.{_≡_, refl, sym, _∙_, ap}
@@ -21,7 +21,7 @@ note-spots-requires c κs = search needs
 chain-requires : tie.Need-chain-requires
 chain-requires c κs = let b = now ((c .before .before .before .before .before .before .before .args) .sheet) in
     let n = (c .before .note-spots) .ensures in
-    ((c .before .before .before .before .before .before .before .pre) .0, omega arith, n .0, chained-none (typeBucket b) (spotOf b) ((c .before .before .before .before .before .before .before .args) .count) _ (λ h g. n .2 h g ∙ (c .before .before .before .clear-heads) .ensures .1 h g) (n .1))
+    ((c .before .before .before .before .before .before .before .pre) .0, omega arith, n .0, chained-none linkPlace (typeBucket b) ((c .before .before .before .before .before .before .before .args) .count) _ (λ h g. n .2 h g ∙ (c .before .before .before .clear-heads) .ensures .1 h g), n .1)
 
 returns-2 : tie.Need-returns-2
 returns-2 c = search needs

@@ -1,8 +1,8 @@
 -- `bytype::note_spots` meets its contract. Invariant: the places so far are noted, and the heads stay.
 -- Assumes nothing.
-use Rattle.bytype.specs.Chains.{Noted, spotPlace, noted-more, spots-apart}
+use Rattle.bytype.specs.Chains.{Noted, noted-more}
 use lib.Seq.{getD-set-other}
-use Rattle.bytype.specs.ByType.{typeBucket, spotOf}
+use Rattle.bytype.specs.ByType.{spotOf, spotPlace, spots-apart}
 use Rattle.sheet.specs.Search.{nth-next}
 use Rattle.sheet.specs.Find.{in-there}
 use Rattle.sheetlaws.specs.Sheet.{inEnd, nth}

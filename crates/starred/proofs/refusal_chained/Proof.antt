@@ -1,9 +1,10 @@
 -- `starred::refusal_chained` meets its contract. Invariant: the least refusal in the instances before k that are of the type, and k is on the type's chain.
 -- Assumes nothing.
-use Rattle.starred.specs.Skips.{OnChain, chain-head, chain-next, skip-head, skip-next, least-same}
+use Rattle.starred.specs.Skips.{least-same}
+use Rattle.bytype.specs.Chains.{OnChain, chain-head, chain-next, skip-head, skip-next}
 use Rattle.applying.specs.Bytes.{leastOf, refusalEvery}
 use Rattle.apply.specs.Turns.{least-with, least-without, typed, type-is, refusesIn}
-use Rattle.bytype.specs.ByType.{bucketOf}
+use Rattle.bytype.specs.ByType.{bucketOf, typeBucket, linkPlace, other-bucket}
 use Rattle.sheet.specs.Find.{in-there}
 use denote.Ref.{now}
 use lib.ListN.{length, getD}
@@ -16,7 +17,7 @@ use Rattle.starred.proofs.refusal_chained.Statement.{statement}
 use Rattle.starred.proofs.refusal_chained.Tie as tie
 
 abbrev Inv-loop : tie.InvT-loop
-Inv-loop start text plan entry rows marks index out celltype least₀ bucket k₀ least k = OnChain start celltype (plan .instances) k
+Inv-loop start text plan entry rows marks index out celltype least₀ bucket k₀ least k = OnChain (typeBucket start) (plan .instances) (bucketOf celltype) k
     × (least ≡ leastOf (typed start celltype) (refusesIn start text (plan .slash) (plan .instances) (plan .arcs) (plan .first) entry rows out) k)
 
 abbrev μ-loop : tie.MeasureT-loop

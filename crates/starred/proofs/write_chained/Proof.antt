@@ -1,9 +1,10 @@
 -- `starred::write_chained` meets its contract. Invariant: what is made of the sheet in the instances before k that are of the type is written, and k is on the type's chain.
 -- Assumes nothing.
-use Rattle.starred.specs.Skips.{OnChain, chain-head, chain-next, skip-head, skip-next, written-same}
+use Rattle.starred.specs.Skips.{written-same}
+use Rattle.bytype.specs.Chains.{OnChain, chain-head, chain-next, skip-head, skip-next}
 use Rattle.applying.specs.Bytes.{writtenOf, writtenEvery}
 use Rattle.apply.specs.Turns.{written-with, written-without, typed, type-is, writesIn}
-use Rattle.bytype.specs.ByType.{bucketOf}
+use Rattle.bytype.specs.ByType.{bucketOf, typeBucket, linkPlace, other-bucket}
 use Rattle.sheet.specs.Find.{in-there}
 use denote.Ref.{now}
 use lib.ListN.{length, getD}
@@ -16,7 +17,7 @@ use Rattle.starred.proofs.write_chained.Statement.{statement}
 use Rattle.starred.proofs.write_chained.Tie as tie
 
 abbrev Inv-loop : tie.InvT-loop
-Inv-loop start text plan entry rows marks index out₀ celltype bucket k₀ out k = OnChain start celltype (plan .instances) k
+Inv-loop start text plan entry rows marks index out₀ celltype bucket k₀ out k = OnChain (typeBucket start) (plan .instances) (bucketOf celltype) k
     × (out ≡ writtenOf (typed start celltype) (writesIn start text (plan .slash) (plan .instances) (plan .arcs) (plan .first) entry rows) out₀ k)
     × (length out ≡ length out₀)
 
