@@ -1,43 +1,32 @@
+-- `devices::by_path` meets its contract.
+-- Assumes nothing.
 use Rattle.devices.specs.ByPath.{byPath}
 use borrow.Author.Tests.{eq-eqb, ne-eqb}
 use mathlib.Core.Path.{_≡_, refl, sym, _∙_}
 use borrow.Author.Needs.{needs}
 use Rattle.devices.proofs.by_path.Statement.{statement}
 use Rattle.devices.proofs.by_path.Tie as tie
-use Rattle.devices.proofs.by_path.Reads as reads
-use Rattle.devices.proofs.by_path.Lts as lts
-use Rattle.byend.proofs.open_end.Reads as open-end-reads
-use Rattle.byend.proofs.plain_port.Reads as plain-port-reads
-use Rattle.names.proofs.part_of.Reads as part-of-reads
-use Rattle.sheet.proofs.instance_path.Reads as instance-path-reads
 
--- src/lib.rt:59:9
 returns : tie.Need-returns
 unfolding byPath
 returns c = rw (eq-eqb _ 0 ((c .if1) .taken))
 
--- src/lib.rt:61:24
 instance-path-requires : tie.Need-instance-path-requires
 instance-path-requires c κs = search needs
 
--- src/lib.rt:61:8
 open-end-requires : tie.Need-open-end-requires
 open-end-requires c κs = search needs
 
--- src/lib.rt:62:34
 part-of-requires : tie.Need-part-of-requires
 part-of-requires c κs = search needs
 
--- src/lib.rt:62:9
 plain-port-requires : tie.Need-plain-port-requires
 plain-port-requires c κs = search needs
 
--- src/lib.rt:62:9
 returns-2 : tie.Need-returns-2
 unfolding byPath
 returns-2 c = rw (ne-eqb _ 0 ((c .before .before .before .before .before .if1) .left), ← (c .before .before .before .before .instance-path) .ensures, ← (c .before .before .before .open-end) .ensures, (c .before .before .if2) .taken, ← (c .before .part-of) .ensures) ((c .plain-port) .ensures)
 
--- src/lib.rt:54:1
 returns-3 : tie.Need-returns-3
 unfolding byPath
 returns-3 c = rw (ne-eqb _ 0 ((c .before .before .before .if1) .left), ← (c .before .before .instance-path) .ensures, ← (c .before .open-end) .ensures, (c .if2) .left)

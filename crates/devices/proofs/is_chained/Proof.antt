@@ -1,30 +1,24 @@
+-- `devices::is_chained` meets its contract.
+-- Assumes nothing.
 use native.Mathlib.Omega.{arith}
 use mathlib.Core.Path.{_≡_, refl, sym, _∙_}
 use Prim.Native.Nat.{ℕ}
 use borrow.Author.Needs.{needs}
 use Rattle.devices.proofs.is_chained.Statement.{statement}
 use Rattle.devices.proofs.is_chained.Tie as tie
-use Rattle.devices.proofs.is_chained.Reads as reads
-use Rattle.devices.proofs.is_chained.Lts as lts
-use Rattle.devices.proofs.by_path.Reads as by-path-reads
 
--- src/lib.rt:150:9
 returns : tie.Need-returns
 returns c = λ e. absurd (let z : _≡_ {A = ℕ} 0 1 = cc in omega arith)
 
--- src/lib.rt:152:8
 element-copy-out-if2 : tie.Need-element-copy-out-if2
 element-copy-out-if2 c = search needs
 
--- src/lib.rt:153:9
 returns-2 : tie.Need-returns-2
 returns-2 c = λ e. absurd (let z : _≡_ {A = ℕ} 0 1 = cc in omega arith)
 
--- src/lib.rt:155:5
 by-path-requires : tie.Need-by-path-requires
 by-path-requires c κs = search needs
 
--- src/lib.rt:138:1
 returns-3 : tie.Need-returns-3
 returns-3 c = λ e. ((c .before .before .before .if1) .left, (c .before .if2) .left, sym ((c .by-path) .ensures) ∙ e)
 

@@ -1,3 +1,5 @@
+-- `devices::refusal_chained` meets its contract. Invariant: whether one of the arcs before k is meant, the least refusal of those that are, and k is on the chain of the path's bucket.
+-- Assumes nothing.
 use Rattle.apply.specs.Turns.{some-with, some-without, least-with, least-without, some-same, least-same, hits, refuses, hit-is}
 use Rattle.applying.specs.Bytes.{someOf, leastOf, deviceRefusal}
 use Rattle.devices.specs.ByPath.{other-end}
@@ -15,16 +17,6 @@ use mathlib.Core.Path.{_≡_, refl, sym, _∙_, ap}
 use Prim.Native.Nat.{ℕ, _+_, _-_, _≤_, _<_}
 use Rattle.devices.proofs.refusal_chained.Statement.{statement}
 use Rattle.devices.proofs.refusal_chained.Tie as tie
-use Rattle.devices.proofs.refusal_chained.Reads as reads
-use Rattle.devices.proofs.refusal_chained.Lts as lts
-use Rattle.amounts.proofs.arc_refusal.Reads as arc-refusal-reads
-use Rattle.amounts.proofs.lesser_of.Reads as lesser-of-reads
-use Rattle.apply.proofs.device_hit.Reads as device-hit-reads
-use Rattle.bytype.proofs.bucket_of.Reads as bucket-of-reads
-use Rattle.devices.proofs.arc_place.Reads as arc-place-reads
-use Rattle.devices.proofs.widen.Reads as widen-reads
-use Rattle.sheet.proofs.instance_path.Reads as instance-path-reads
-use Rattle.sheet.proofs.values_place.Reads as values-place-reads
 
 abbrev Inv-loop : tie.InvT-loop
 Inv-loop start text plan entry rows marks ends out instance some₀ least₀ bucket k₀ some least k = OnChain (endBucket start (plan .first)) (plan .arcs) (bucketOf (pathAt start instance)) k
@@ -34,27 +26,21 @@ Inv-loop start text plan entry rows marks ends out instance some₀ least₀ buc
 abbrev μ-loop : tie.MeasureT-loop
 μ-loop start text plan entry rows marks ends out instance some₀ least₀ bucket k₀ some least k = plan .arcs - k
 
--- src/lib.rt:87:36
 instance-path-requires : tie.Need-instance-path-requires Inv-loop μ-loop
 instance-path-requires c κs = (c .before .before .before .pre) .0 .there
 
--- src/lib.rt:87:9
 bucket-of-requires : tie.Need-bucket-of-requires Inv-loop μ-loop
 bucket-of-requires c κs = search needs
 
--- src/lib.rt:88:23
 mul-widen : tie.Need-mul-widen Inv-loop μ-loop
 mul-widen c = omega (arith, (c .bucket-of) .ensures .1)
 
--- src/lib.rt:88:23
 element-copy-out-widen : tie.Need-element-copy-out-widen Inv-loop μ-loop
 element-copy-out-widen c = omega (arith, (c .bucket-of) .ensures .1)
 
--- src/lib.rt:88:9
 widen-requires : tie.Need-widen-requires Inv-loop μ-loop
 widen-requires c κs = search needs
 
--- src/lib.rt:89:5
 loop-holds : tie.Need-loop-holds Inv-loop μ-loop
 unfolding someOf leastOf
 loop-holds c = let b = now ((c .before .before .before .before .before .before .before .args) .start) in
@@ -70,50 +56,39 @@ loop-holds c = let b = now ((c .before .before .before .before .before .before .
     sym (skip-head endPlace (endBucket b f) m t ((c .before .before .before .before .before .before .before .pre) .3) (bucketOf (pathAt b p)) test other (someOf test) (some-same test) _ _ h ((c .before .before .bucket-of) .ensures .1) ((c .widen) .ensures)),
     sym (skip-head endPlace (endBucket b f) m t ((c .before .before .before .before .before .before .before .pre) .3) (bucketOf (pathAt b p)) test other (leastOf test refusal) (least-same test refusal) _ _ h ((c .before .before .bucket-of) .ensures .1) ((c .widen) .ensures)))
 
--- src/lib.rt:90:13
 arc-place-requires : tie.Need-arc-place-requires Inv-loop μ-loop
 arc-place-requires c κs = ((c .before .before .before .before .before .before .before .before .before .before .pre) .1, omega (arith, (c .if1) .taken))
 
--- src/lib.rt:91:12
 device-hit-requires : tie.Need-device-hit-requires Inv-loop μ-loop
 device-hit-requires c κs = ((c .before .before .before .before .before .before .before .before .before .before .before .pre) .0 .there, rw ((c .arc-place) .ensures) (arc-there (now ((c .before .before .before .before .before .before .before .before .before .before .before .args) .start)) ((c .before .before .before .loop) .k) ((c .before .before .before .before .before .before .before .before .before .before .before .args) .plan .arcs) ((c .before .before .before .before .before .before .before .before .before .before .before .args) .plan .first) (omega (arith, (c .before .if1) .taken)) ((c .before .before .before .before .before .before .before .before .before .before .before .pre) .0 .arcs) .1))
 
--- src/lib.rt:92:17
 values-place-requires : tie.Need-values-place-requires Inv-loop μ-loop
 values-place-requires c κs = rw ((c .before .before .arc-place) .ensures) (arc-there (now ((c .before .before .before .before .before .before .before .before .before .before .before .before .before .args) .start)) ((c .before .before .before .before .before .loop) .k) ((c .before .before .before .before .before .before .before .before .before .before .before .before .before .args) .plan .arcs) ((c .before .before .before .before .before .before .before .before .before .before .before .before .before .args) .plan .first) (omega (arith, (c .before .before .before .if1) .taken)) ((c .before .before .before .before .before .before .before .before .before .before .before .before .before .pre) .0 .arcs) .1)
 
--- src/lib.rt:95:17
 arc-refusal-requires : tie.Need-arc-refusal-requires Inv-loop μ-loop
 arc-refusal-requires c κs = rw ((c .before .values-place) .ensures, (c .before .before .before .before .before .before .before .before .before .before .before .before .before .before .before .pre) .0 .long) (rw ((c .before .before .before .before .arc-place) .ensures) (arc-there (now ((c .before .before .before .before .before .before .before .before .before .before .before .before .before .before .before .args) .start)) ((c .before .before .before .before .before .before .before .loop) .k) ((c .before .before .before .before .before .before .before .before .before .before .before .before .before .before .before .args) .plan .arcs) ((c .before .before .before .before .before .before .before .before .before .before .before .before .before .before .before .args) .plan .first) (omega (arith, (c .before .before .before .before .before .if1) .taken)) ((c .before .before .before .before .before .before .before .before .before .before .before .before .before .before .before .pre) .0 .arcs) .1))
 
--- src/lib.rt:93:13
 lesser-of-requires : tie.Need-lesser-of-requires Inv-loop μ-loop
 lesser-of-requires c κs = search needs
 
--- src/lib.rt:99:24
 add-widen : tie.Need-add-widen Inv-loop μ-loop
 add-widen c = omega (arith, (c .before .before .before .before .before .before .before .before .before .before .before .before .before .pre) .2, (c .before .before .before .if1) .taken)
 
--- src/lib.rt:99:19
 mul-widen-2 : tie.Need-mul-widen-2 Inv-loop μ-loop
 mul-widen-2 c = omega (arith, (c .before .before .before .before .before .before .before .before .before .before .before .before .before .pre) .2, (c .before .before .before .if1) .taken)
 
--- src/lib.rt:99:19
 element-copy-out-widen-2 : tie.Need-element-copy-out-widen-2 Inv-loop μ-loop
 element-copy-out-widen-2 c = omega (arith, (c .before .before .before .before .before .before .before .before .before .before .before .before .before .pre) .2, (c .before .before .before .if1) .taken)
 
--- src/lib.rt:99:9
 widen-requires-2 : tie.Need-widen-requires-2 Inv-loop μ-loop
 widen-requires-2 c κs = search needs
 
--- src/lib.rt:89:5
 loop-less : tie.Need-loop-less Inv-loop μ-loop
 loop-less c = let b = now ((c .before .before .before .before .before .before .before .before .before .before .before .before .before .before .before .args) .start) in
     let s = chain-next endPlace (endBucket b ((c .before .before .before .before .before .before .before .before .before .before .before .before .before .before .before .args) .plan .first)) ((c .before .before .before .before .before .before .before .before .before .before .before .before .before .before .before .args) .plan .arcs) (now ((c .before .before .before .before .before .before .before .before .before .before .before .before .before .before .before .args) .ends)) ((c .before .before .before .before .before .before .before .before .before .before .before .before .before .before .before .pre) .3) (bucketOf (pathAt b ((c .before .before .before .before .before .before .before .before .before .before .before .before .before .before .before .args) .instance))) ((c .before .before .before .before .before .before .before .loop) .k) _
     (omega (arith, (c .before .before .before .before .before .if1) .taken)) ((c .before .before .before .before .before .before .before .loop) .inv .0) ((c .widen2) .ensures) in
     omega (arith, s .1, (c .before .before .before .before .before .if1) .taken)
 
--- src/lib.rt:89:5
 loop-again : tie.Need-loop-again Inv-loop μ-loop
 loop-again c = let b = now ((c .before .before .before .before .before .before .before .before .before .before .before .before .before .before .before .args) .start) in
     let p = (c .before .before .before .before .before .before .before .before .before .before .before .before .before .before .before .args) .instance in
@@ -136,13 +111,11 @@ loop-again c = let b = now ((c .before .before .before .before .before .before .
     least-without test (l .k) refusal _ (hit ∙ w .0 .left) (w .2 ∙ l .inv .2) ∙ sym skip))
     ((c .before .before .if2) .came)
 
--- src/lib.rt:102:9
 returns : tie.Need-returns Inv-loop μ-loop
 unfolding deviceRefusal
 returns c = let e : (c .before .before .before .loop) .k ≡ (c .before .before .before .before .before .before .before .before .before .before .before .args) .plan .arcs = omega (arith, (c .before .before .before .loop) .inv .0 .to, (c .before .if1) .left) in
     rw (← e, ← (c .before .before .before .loop) .inv .1, (c .if3) .taken) ((c .before .before .before .loop) .inv .2)
 
--- src/lib.rt:68:1
 returns-2 : tie.Need-returns-2 Inv-loop μ-loop
 unfolding deviceRefusal
 returns-2 c = let e : (c .before .before .before .loop) .k ≡ (c .before .before .before .before .before .before .before .before .before .before .before .args) .plan .arcs = omega (arith, (c .before .before .before .loop) .inv .0 .to, (c .before .if1) .left) in

@@ -1,3 +1,5 @@
+-- `devices::write_chained` meets its contract. Invariant: what the arcs before k that are meant make of the sheet is written, and k is on the chain of the path's bucket.
+-- Assumes nothing.
 use Rattle.apply.specs.Turns.{written-with, written-without, written-same, hits, writes, hit-is}
 use Rattle.applying.specs.Bytes.{writtenOf, deviceWritten}
 use Rattle.devices.specs.ByPath.{other-end}
@@ -15,15 +17,6 @@ use mathlib.Core.Path.{_≡_, refl, sym, _∙_, ap}
 use Prim.Native.Nat.{ℕ, _+_, _-_, _≤_, _<_}
 use Rattle.devices.proofs.write_chained.Statement.{statement}
 use Rattle.devices.proofs.write_chained.Tie as tie
-use Rattle.devices.proofs.write_chained.Reads as reads
-use Rattle.devices.proofs.write_chained.Lts as lts
-use Rattle.amounts.proofs.write_arc.Reads as write-arc-reads
-use Rattle.apply.proofs.device_hit.Reads as device-hit-reads
-use Rattle.bytype.proofs.bucket_of.Reads as bucket-of-reads
-use Rattle.devices.proofs.arc_place.Reads as arc-place-reads
-use Rattle.devices.proofs.widen.Reads as widen-reads
-use Rattle.sheet.proofs.instance_path.Reads as instance-path-reads
-use Rattle.sheet.proofs.values_place.Reads as values-place-reads
 
 abbrev Inv-loop : tie.InvT-loop
 Inv-loop start text plan entry rows marks ends out₀ instance bucket k₀ out k = OnChain (endBucket start (plan .first)) (plan .arcs) (bucketOf (pathAt start instance)) k
@@ -33,27 +26,21 @@ Inv-loop start text plan entry rows marks ends out₀ instance bucket k₀ out k
 abbrev μ-loop : tie.MeasureT-loop
 μ-loop start text plan entry rows marks ends out₀ instance bucket k₀ out k = plan .arcs - k
 
--- src/lib.rt:125:36
 instance-path-requires : tie.Need-instance-path-requires Inv-loop μ-loop
 instance-path-requires c κs = (c .before .before .before .pre) .0 .there
 
--- src/lib.rt:125:9
 bucket-of-requires : tie.Need-bucket-of-requires Inv-loop μ-loop
 bucket-of-requires c κs = search needs
 
--- src/lib.rt:126:23
 mul-widen : tie.Need-mul-widen Inv-loop μ-loop
 mul-widen c = omega (arith, (c .bucket-of) .ensures .1)
 
--- src/lib.rt:126:23
 element-copy-out-widen : tie.Need-element-copy-out-widen Inv-loop μ-loop
 element-copy-out-widen c = omega (arith, (c .bucket-of) .ensures .1)
 
--- src/lib.rt:126:9
 widen-requires : tie.Need-widen-requires Inv-loop μ-loop
 widen-requires c κs = search needs
 
--- src/lib.rt:127:5
 loop-holds : tie.Need-loop-holds Inv-loop μ-loop
 unfolding writtenOf
 loop-holds c = let b = now ((c .before .before .before .before .before .before .before .args) .start) in
@@ -70,46 +57,36 @@ loop-holds c = let b = now ((c .before .before .before .before .before .before .
     sym (skip-head endPlace (endBucket b f) m t ((c .before .before .before .before .before .before .before .pre) .3) (bucketOf (pathAt b p)) test other (writtenOf test write out) (written-same test write out) _ _ h ((c .before .before .bucket-of) .ensures .1) ((c .widen) .ensures)),
     refl)
 
--- src/lib.rt:128:13
 arc-place-requires : tie.Need-arc-place-requires Inv-loop μ-loop
 arc-place-requires c κs = ((c .before .before .before .before .before .before .before .before .before .before .pre) .1, omega (arith, (c .if1) .taken))
 
--- src/lib.rt:129:12
 device-hit-requires : tie.Need-device-hit-requires Inv-loop μ-loop
 device-hit-requires c κs = ((c .before .before .before .before .before .before .before .before .before .before .before .pre) .0 .there, rw ((c .arc-place) .ensures) (arc-there (now ((c .before .before .before .before .before .before .before .before .before .before .before .args) .start)) ((c .before .before .before .loop) .k) ((c .before .before .before .before .before .before .before .before .before .before .before .args) .plan .arcs) ((c .before .before .before .before .before .before .before .before .before .before .before .args) .plan .first) (omega (arith, (c .before .if1) .taken)) ((c .before .before .before .before .before .before .before .before .before .before .before .pre) .0 .arcs) .1))
 
--- src/lib.rt:130:17
 values-place-requires : tie.Need-values-place-requires Inv-loop μ-loop
 values-place-requires c κs = rw ((c .before .before .arc-place) .ensures) (arc-there (now ((c .before .before .before .before .before .before .before .before .before .before .before .before .before .args) .start)) ((c .before .before .before .before .before .loop) .k) ((c .before .before .before .before .before .before .before .before .before .before .before .before .before .args) .plan .arcs) ((c .before .before .before .before .before .before .before .before .before .before .before .before .before .args) .plan .first) (omega (arith, (c .before .before .before .if1) .taken)) ((c .before .before .before .before .before .before .before .before .before .before .before .before .before .pre) .0 .arcs) .1)
 
--- src/lib.rt:131:13
 write-arc-requires : tie.Need-write-arc-requires Inv-loop μ-loop
 write-arc-requires c κs = rw ((c .before .before .values-place) .ensures, (c .before .before .before .before .before .before .before .before .loop) .inv .2, (c .before .before .before .before .before .before .before .before .before .before .before .before .before .before .before .before .pre) .0 .long) (rw ((c .before .before .before .before .before .arc-place) .ensures) (arc-there (now ((c .before .before .before .before .before .before .before .before .before .before .before .before .before .before .before .before .args) .start)) ((c .before .before .before .before .before .before .before .before .loop) .k) ((c .before .before .before .before .before .before .before .before .before .before .before .before .before .before .before .before .args) .plan .arcs) ((c .before .before .before .before .before .before .before .before .before .before .before .before .before .before .before .before .args) .plan .first) (omega (arith, (c .before .before .before .before .before .before .if1) .taken)) ((c .before .before .before .before .before .before .before .before .before .before .before .before .before .before .before .before .pre) .0 .arcs) .1))
 
--- src/lib.rt:133:24
 add-widen : tie.Need-add-widen Inv-loop μ-loop
 add-widen c = omega (arith, (c .before .before .before .before .before .before .before .before .before .before .before .before .before .pre) .2, (c .before .before .before .if1) .taken)
 
--- src/lib.rt:133:19
 mul-widen-2 : tie.Need-mul-widen-2 Inv-loop μ-loop
 mul-widen-2 c = omega (arith, (c .before .before .before .before .before .before .before .before .before .before .before .before .before .pre) .2, (c .before .before .before .if1) .taken)
 
--- src/lib.rt:133:19
 element-copy-out-widen-2 : tie.Need-element-copy-out-widen-2 Inv-loop μ-loop
 element-copy-out-widen-2 c = omega (arith, (c .before .before .before .before .before .before .before .before .before .before .before .before .before .pre) .2, (c .before .before .before .if1) .taken)
 
--- src/lib.rt:133:9
 widen-requires-2 : tie.Need-widen-requires-2 Inv-loop μ-loop
 widen-requires-2 c κs = search needs
 
--- src/lib.rt:127:5
 loop-less : tie.Need-loop-less Inv-loop μ-loop
 loop-less c = let b = now ((c .before .before .before .before .before .before .before .before .before .before .before .before .before .before .before .args) .start) in
     let s = chain-next endPlace (endBucket b ((c .before .before .before .before .before .before .before .before .before .before .before .before .before .before .before .args) .plan .first)) ((c .before .before .before .before .before .before .before .before .before .before .before .before .before .before .before .args) .plan .arcs) (now ((c .before .before .before .before .before .before .before .before .before .before .before .before .before .before .before .args) .ends)) ((c .before .before .before .before .before .before .before .before .before .before .before .before .before .before .before .pre) .3) (bucketOf (pathAt b ((c .before .before .before .before .before .before .before .before .before .before .before .before .before .before .before .args) .instance))) ((c .before .before .before .before .before .before .before .loop) .k) _
     (omega (arith, (c .before .before .before .before .before .if1) .taken)) ((c .before .before .before .before .before .before .before .loop) .inv .0) ((c .widen2) .ensures) in
     omega (arith, s .1, (c .before .before .before .before .before .if1) .taken)
 
--- src/lib.rt:127:5
 loop-again : tie.Need-loop-again Inv-loop μ-loop
 loop-again c = let b = now ((c .before .before .before .before .before .before .before .before .before .before .before .before .before .before .before .args) .start) in
     let p = (c .before .before .before .before .before .before .before .before .before .before .before .before .before .before .before .args) .instance in
@@ -130,11 +107,9 @@ loop-again c = let b = now ((c .before .before .before .before .before .before .
     (λ w. (on, written-without test (l .k) write out _ (hit ∙ w .0 .left) (w .1 ∙ l .inv .1) ∙ sym skip, ap length (w .1) ∙ l .inv .2))
     ((c .before .before .if2) .came)
 
--- src/lib.rt:108:1
 same-length : tie.Need-same-length Inv-loop μ-loop
 same-length c = (c .before .before .loop) .inv .2
 
--- src/lib.rt:108:1
 returns : tie.Need-returns Inv-loop μ-loop
 unfolding deviceWritten
 returns c = let e : (c .before .before .loop) .k ≡ (c .before .before .before .before .before .before .before .before .before .before .args) .plan .arcs = omega (arith, (c .before .before .loop) .inv .0 .to, (c .if1) .left) in
