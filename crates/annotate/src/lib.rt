@@ -6,6 +6,7 @@ ghost use Rattle.sheetform.specs.Form.{checkOf};
 ghost use Rattle.sheetform.specs.declared.SheetCheck.the-variants.{Good};
 ghost use Rattle.sheet.specs.Find.{InstanceSearch};
 ghost use Rattle.bytype.specs.ByType.{IndexReady};
+ghost use Rattle.byend.specs.Ends.{EndsReady};
 ghost use Rattle.applying.specs.Ready.{Ready};
 ghost use Rattle.annotate.specs.Whom.{whomOf, InSheet};
 ghost use Rattle.annotate.specs.Entries.{refusalFor, appliedFor, EntriesRun};
@@ -71,6 +72,7 @@ fn apply_entry(
     plan: Plan,
     marks: &[u32; 4096],
     index: &[u32; 135168],
+    ends: &[u32; 135168],
     entries: &[u64],
     row: usize,
     whom: Whom,
@@ -78,7 +80,8 @@ fn apply_entry(
     out: &mut [u8],
 ) -> u8
     requires { ⌜ (Ready (now start) (plan .instances) (plan .arcs) (plan .first) (now marks) (now out)) × (row + 28 ≤ length (now entries))
-        × (InSheet (now start) whom) × IndexReady (now start) (plan .instances) (now index) ⌝ }
+        × (InSheet (now start) whom) × (IndexReady (now start) (plan .instances) (now index))
+        × EndsReady (now start) (plan .arcs) (plan .first) (now ends) ⌝ }
     ensures { λ r. ⌜ (r ≡ refusalFor (now (start .entry)) (now (text .entry)) (plan .slash) (plan .instances) (plan .arcs) (plan .first)
         (now (entries .entry)) row whom (now (celltype .entry)) (now (out .entry)))
         × (now (out .exit) ≡ appliedFor (now (start .entry)) (now (text .entry)) (plan .slash) (plan .instances) (plan .arcs) (plan .first)
@@ -87,13 +90,14 @@ fn apply_entry(
     let entry = views::head_at(entries, row);
     let rows = amounts::expand(entries, row + 10, entry.group == CHECK, entries[row + 9]);
     match whom {
-        Whom::One(instance) => apply::apply_in(
+        Whom::One(instance) => devices::apply_at(
             start,
             text,
             plan,
             entry,
             rows,
             marks,
+            ends,
             out,
             instance,
         ),
@@ -105,6 +109,7 @@ fn apply_entry(
             rows,
             marks,
             index,
+            ends,
             out,
             celltype,
         ),
@@ -119,6 +124,7 @@ fn apply_entries(
     plan: Plan,
     marks: &[u32; 4096],
     index: &[u32; 135168],
+    ends: &[u32; 135168],
     entries: &[u64],
     first: usize,
     count: usize,
@@ -128,7 +134,8 @@ fn apply_entries(
 ) -> Annotated
     requires { ⌜ (Ready (now start) (plan .instances) (plan .arcs) (plan .first) (now marks) (now out))
         × (28 * (first + count) ≤ length (now entries)) × (InSheet (now start) whom)
-        × IndexReady (now start) (plan .instances) (now index) ⌝ }
+        × (IndexReady (now start) (plan .instances) (now index))
+        × EndsReady (now start) (plan .arcs) (plan .first) (now ends) ⌝ }
     ensures { λ r. ⌜ (length (now (out .exit)) ≡ length (now (out .entry)))
         × EntriesRun (now (start .entry)) (now (text .entry)) (plan .slash) (plan .instances) (plan .arcs) (plan .first) (now (entries .entry))
         first count whom (now (celltype .entry)) (now (out .entry)) (now (out .exit)) r ⌝ }
@@ -142,6 +149,7 @@ fn apply_entries(
             plan,
             marks,
             index,
+            ends,
             entries,
             row,
             whom,
@@ -167,6 +175,7 @@ fn apply_cell(
     places: &[u32; 4096],
     marks: &[u32; 4096],
     index: &[u32; 135168],
+    ends: &[u32; 135168],
     cells: &[u64],
     row: usize,
     entries: &[u64],
@@ -176,7 +185,8 @@ fn apply_cell(
     requires { ⌜ (Ready (now start) (plan .instances) (plan .arcs) (plan .first) (now marks) (now out))
         × (InstanceSearch (now start) (plan .instances) 12 (now places)) × (row + 7 ≤ length (now cells))
         × (28 * (first + getD (now cells) (row + 6) 0) ≤ length (now entries))
-        × IndexReady (now start) (plan .instances) (now index) ⌝ }
+        × (IndexReady (now start) (plan .instances) (now index))
+        × EndsReady (now start) (plan .arcs) (plan .first) (now ends) ⌝ }
     ensures { λ r. ⌜ (length (now (out .exit)) ≡ length (now (out .entry)))
         × CellRun (now (start .entry)) (now (text .entry)) (plan .slash) (plan .instances) (plan .arcs) (plan .first) (now (cells .entry)) row
         (now (entries .entry)) first (now (out .entry)) (now (out .exit)) r ⌝ }
@@ -196,6 +206,7 @@ fn apply_cell(
                 plan,
                 marks,
                 index,
+                ends,
                 entries,
                 first,
                 cell.entries,
@@ -210,6 +221,7 @@ fn apply_cell(
             plan,
             marks,
             index,
+            ends,
             entries,
             first,
             cell.entries,
@@ -228,6 +240,7 @@ fn apply_cells(
     places: &[u32; 4096],
     marks: &[u32; 4096],
     index: &[u32; 135168],
+    ends: &[u32; 135168],
     cells: &[u64],
     count: usize,
     entries: &[u64],
@@ -236,7 +249,8 @@ fn apply_cells(
     requires { ⌜ (Ready (now start) (plan .instances) (plan .arcs) (plan .first) (now marks) (now out))
         × (InstanceSearch (now start) (plan .instances) 12 (now places)) × (7 * count ≤ length (now cells))
         × (28 * entriesBefore (now cells) count ≤ length (now entries))
-        × IndexReady (now start) (plan .instances) (now index) ⌝ }
+        × (IndexReady (now start) (plan .instances) (now index))
+        × EndsReady (now start) (plan .arcs) (plan .first) (now ends) ⌝ }
     ensures { λ r. ⌜ (length (now (out .exit)) ≡ length (now (out .entry)))
         × CellsRun (now (start .entry)) (now (text .entry)) (plan .slash) (plan .instances) (plan .arcs) (plan .first) (now (cells .entry)) count
         (now (entries .entry)) (now (out .entry)) (now (out .exit)) r ⌝ }
@@ -252,6 +266,7 @@ fn apply_cells(
             places,
             marks,
             index,
+            ends,
             cells,
             row,
             entries,
@@ -294,6 +309,19 @@ fn copy_sheet(start: &[u8], out: &mut [u8])
     }
 }
 
+// Whether a row of the table is one of a DEVICE: the index for it is made only then.
+fn any_device(entries: &[u64]) -> bool {
+    let rows = entries.len() / ENTRY_WORDS;
+    let mut k = 0;
+    while k < rows {
+        if entries[ENTRY_WORDS * k] == DEVICE {
+            return true;
+        }
+        k += 1;
+    }
+    false
+}
+
 // Applies a text that was read to a starting sheet that was checked. After a refusal the output sheet equals the starting sheet.
 fn apply_text(
     start: &[u8],
@@ -315,6 +343,8 @@ fn apply_text(
     sheet::mark_arcs(start, plan.arcs, plan.first, &mut marks);
     let mut index = [0u32; 135168];
     bytype::index_types(start, plan.instances, &mut index);
+    let mut ends = [0u32; 135168];
+    byend::index_ends(start, plan.arcs, plan.first, any_device(entries), &mut ends);
     copy_sheet(start, out);
     let went = apply_cells(
         start,
@@ -323,6 +353,7 @@ fn apply_text(
         &places,
         &marks,
         &index,
+        &ends,
         cells,
         count,
         entries,

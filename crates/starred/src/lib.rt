@@ -2,6 +2,7 @@
 ghost use mathlib.Core.Path.{_≡_};
 ghost use Prim.Native.Nat.{_≤_};
 ghost use Rattle.bytype.specs.ByType.{Indexed, IndexReady};
+ghost use Rattle.byend.specs.Ends.{EndsReady};
 ghost use Rattle.applying.specs.Bytes.{refusalEvery, writtenEvery, appliedEvery};
 ghost use Rattle.applying.specs.Ready.{Ready};
 use apply::Plan;
@@ -25,11 +26,12 @@ fn refusal_chained(
     rows: [[u64; 3]; 6],
     marks: &[u32; 4096],
     index: &[u32; 135168],
+    ends: &[u32; 135168],
     out: &[u8],
     celltype: &[u8],
 ) -> u8
     requires { ⌜ (Ready (now start) (plan .instances) (plan .arcs) (plan .first) (now marks) (now out)) × (plan .instances ≤ 65536)
-        × Indexed (now start) (plan .instances) (now index) ⌝ }
+        × (Indexed (now start) (plan .instances) (now index)) × EndsReady (now start) (plan .arcs) (plan .first) (now ends) ⌝ }
     ensures { λ r. ⌜ r ≡ refusalEvery (now (start .entry)) (now (text .entry)) (plan .slash) (plan .instances) (plan .arcs) (plan .first) entry rows
         (now (out .entry)) (now (celltype .entry)) ⌝ }
 {
@@ -41,7 +43,7 @@ fn refusal_chained(
         if apply::is_of(start, here, celltype) {
             least = amounts::lesser_of(
                 least,
-                apply::refusal_in(start, text, plan, entry, rows, marks, out, here),
+                devices::refusal_at(start, text, plan, entry, rows, marks, ends, out, here),
             );
         }
         k = widen(index[4096 + 2 * k]);
@@ -58,11 +60,12 @@ fn write_chained(
     rows: [[u64; 3]; 6],
     marks: &[u32; 4096],
     index: &[u32; 135168],
+    ends: &[u32; 135168],
     out: &mut [u8],
     celltype: &[u8],
 )
     requires { ⌜ (Ready (now start) (plan .instances) (plan .arcs) (plan .first) (now marks) (now out)) × (plan .instances ≤ 65536)
-        × Indexed (now start) (plan .instances) (now index) ⌝ }
+        × (Indexed (now start) (plan .instances) (now index)) × EndsReady (now start) (plan .arcs) (plan .first) (now ends) ⌝ }
     ensures { λ _. ⌜ now (out .exit) ≡ writtenEvery (now (start .entry)) (now (text .entry)) (plan .slash) (plan .instances) (plan .arcs) (plan .first) entry rows
         (now (out .entry)) (now (celltype .entry)) ⌝ }
 {
@@ -71,7 +74,7 @@ fn write_chained(
     while k < plan.instances {
         let here = widen(index[4097 + 2 * k]);
         if apply::is_of(start, here, celltype) {
-            apply::write_in(start, text, plan, entry, rows, marks, out, here);
+            devices::write_at(start, text, plan, entry, rows, marks, ends, out, here);
         }
         k = widen(index[4096 + 2 * k]);
     }
@@ -87,11 +90,12 @@ pub fn apply_typed(
     rows: [[u64; 3]; 6],
     marks: &[u32; 4096],
     index: &[u32; 135168],
+    ends: &[u32; 135168],
     out: &mut [u8],
     celltype: &[u8],
 ) -> u8
     requires { ⌜ (Ready (now start) (plan .instances) (plan .arcs) (plan .first) (now marks) (now out))
-        × IndexReady (now start) (plan .instances) (now index) ⌝ }
+        × (IndexReady (now start) (plan .instances) (now index)) × EndsReady (now start) (plan .arcs) (plan .first) (now ends) ⌝ }
     ensures { λ r. ⌜ (r ≡ refusalEvery (now (start .entry)) (now (text .entry)) (plan .slash) (plan .instances) (plan .arcs) (plan .first) entry rows
         (now (out .entry)) (now (celltype .entry)))
         × (now (out .exit) ≡ appliedEvery (now (start .entry)) (now (text .entry)) (plan .slash) (plan .instances) (plan .arcs) (plan .first) entry
@@ -100,9 +104,31 @@ pub fn apply_typed(
     if MOST < plan.instances {
         return apply::apply_every(start, text, plan, entry, rows, marks, out, celltype);
     }
-    let least = refusal_chained(start, text, plan, entry, rows, marks, index, out, celltype);
+    let least = refusal_chained(
+        start,
+        text,
+        plan,
+        entry,
+        rows,
+        marks,
+        index,
+        ends,
+        out,
+        celltype,
+    );
     if least == 0 {
-        write_chained(start, text, plan, entry, rows, marks, index, out, celltype);
+        write_chained(
+            start,
+            text,
+            plan,
+            entry,
+            rows,
+            marks,
+            index,
+            ends,
+            out,
+            celltype,
+        );
     }
     least
 }

@@ -1,9 +1,9 @@
 -- `starred::apply_typed` meets its contract.
 -- Assumes nothing.
-use Prim.Native.Nat.{_≤_}
 use Rattle.applying.specs.Bytes.{appliedEvery}
 use borrow.Author.Tests.{eq-eqb, ne-eqb}
 use native.Mathlib.Omega.{arith}
+use Prim.Native.Nat.{_≤_}
 use borrow.Author.Needs.{needs}
 use Rattle.starred.proofs.apply_typed.Statement.{statement}
 use Rattle.starred.proofs.apply_typed.Tie as tie
@@ -19,11 +19,11 @@ returns c = search needs
 
 refusal-chained-requires : tie.Need-refusal-chained-requires
 refusal-chained-requires c κs = let few : (c .before .before .before .before .before .before .before .args) .plan .instances ≤ 65536 = omega (arith, (c .before .if1) .left) in
-    ((c .before .before .before .before .before .before .before .pre) .0, few, (c .before .before .before .before .before .before .before .pre) .1 few)
+    ((c .before .before .before .before .before .before .before .pre) .0, few, (c .before .before .before .before .before .before .before .pre) .1 few, (c .before .before .before .before .before .before .before .pre) .2)
 
 write-chained-requires : tie.Need-write-chained-requires
 write-chained-requires c κs = let few : (c .before .before .before .before .before .before .before .before .before .before .args) .plan .instances ≤ 65536 = omega (arith, (c .before .before .before .before .if1) .left) in
-    ((c .before .before .before .before .before .before .before .before .before .before .pre) .0, few, (c .before .before .before .before .before .before .before .before .before .before .pre) .1 few)
+    ((c .before .before .before .before .before .before .before .before .before .before .pre) .0, few, (c .before .before .before .before .before .before .before .before .before .before .pre) .1 few, (c .before .before .before .before .before .before .before .before .before .before .pre) .2)
 
 same-length-2 : tie.Need-same-length-2
 same-length-2 c = search needs

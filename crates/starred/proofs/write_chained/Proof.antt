@@ -1,9 +1,8 @@
--- `starred::write_chained` meets its contract. Invariant: what is made of the sheet in the instances before k that are of the type is written, and k is on the type's chain.
+-- `starred::write_chained` meets its contract. Invariant: what is made of the sheet in the instances before k that are of the type is written, and k is on the chain of the type's bucket.
 -- Assumes nothing.
-use Rattle.starred.specs.Skips.{written-same}
-use Rattle.bytype.specs.Chains.{OnChain, chain-head, chain-next, skip-head, skip-next}
 use Rattle.applying.specs.Bytes.{writtenOf, writtenEvery}
-use Rattle.apply.specs.Turns.{written-with, written-without, typed, type-is, writesIn}
+use Rattle.apply.specs.Turns.{written-with, written-without, written-same, typed, type-is, writesIn}
+use Rattle.bytype.specs.Chains.{OnChain, chain-head, chain-next, skip-head, skip-next}
 use Rattle.bytype.specs.ByType.{bucketOf, typeBucket, linkPlace, other-bucket}
 use Rattle.sheet.specs.Find.{in-there}
 use denote.Ref.{now}
@@ -17,12 +16,12 @@ use Rattle.starred.proofs.write_chained.Statement.{statement}
 use Rattle.starred.proofs.write_chained.Tie as tie
 
 abbrev Inv-loop : tie.InvT-loop
-Inv-loop start text plan entry rows marks index out₀ celltype bucket k₀ out k = OnChain (typeBucket start) (plan .instances) (bucketOf celltype) k
+Inv-loop start text plan entry rows marks index ends out₀ celltype bucket k₀ out k = OnChain (typeBucket start) (plan .instances) (bucketOf celltype) k
     × (out ≡ writtenOf (typed start celltype) (writesIn start text (plan .slash) (plan .instances) (plan .arcs) (plan .first) entry rows) out₀ k)
     × (length out ≡ length out₀)
 
 abbrev μ-loop : tie.MeasureT-loop
-μ-loop start text plan entry rows marks index out₀ celltype bucket k₀ out k = plan .instances - k
+μ-loop start text plan entry rows marks index ends out₀ celltype bucket k₀ out k = plan .instances - k
 
 bucket-of-requires : tie.Need-bucket-of-requires Inv-loop μ-loop
 bucket-of-requires c κs = search needs
@@ -45,8 +44,9 @@ loop-holds c = let b = now ((c .before .before .before .before .before .before .
     let test = typed b type in
     let write = writesIn b (now ((c .before .before .before .before .before .before .before .args) .text)) ((c .before .before .before .before .before .before .before .args) .plan .slash) n ((c .before .before .before .before .before .before .before .args) .plan .arcs) ((c .before .before .before .before .before .before .before .args) .plan .first) ((c .before .before .before .before .before .before .before .args) .entry) ((c .before .before .before .before .before .before .before .args) .rows) in
     let out = now ((c .before .before .before .before .before .before .before .args) .out) in
-    (chain-head b type n t ((c .before .before .before .before .before .before .before .pre) .2) _ _ ((c .before .before .bucket-of) .ensures .0) ((c .before .before .bucket-of) .ensures .1) ((c .widen) .ensures),
-    sym (skip-head b type n t ((c .before .before .before .before .before .before .before .pre) .2) (writtenOf test write out) (written-same test write out) _ _ ((c .before .before .bucket-of) .ensures .0) ((c .before .before .bucket-of) .ensures .1) ((c .widen) .ensures)),
+    (chain-head linkPlace (typeBucket b) n t ((c .before .before .before .before .before .before .before .pre) .2 .chain) (bucketOf type) _ _ ((c .before .before .bucket-of) .ensures .0) ((c .before .before .bucket-of) .ensures .1) ((c .widen) .ensures),
+    sym (skip-head linkPlace (typeBucket b) n t ((c .before .before .before .before .before .before .before .pre) .2 .chain) (bucketOf type) test (other-bucket b type) (writtenOf test write out) (written-same test write out) _ _ ((c .before .before .bucket-of) .ensures .0)
+    ((c .before .before .bucket-of) .ensures .1) ((c .widen) .ensures)),
     refl)
 
 mul-widen-2 : tie.Need-mul-widen-2 Inv-loop μ-loop
@@ -68,10 +68,10 @@ is-of-requires : tie.Need-is-of-requires Inv-loop μ-loop
 is-of-requires c κs = let e = (c .widen2) .ensures ∙ (c .before .before .before .before .before .before .before .before .before .before .before .before .pre) .2 .spots ((c .before .before .before .before .loop) .k) (omega (arith, (c .before .before .if1) .taken)) in
     rw e (in-there (now ((c .before .before .before .before .before .before .before .before .before .before .before .before .args) .start)) ((c .before .before .before .before .loop) .k) ((c .before .before .before .before .before .before .before .before .before .before .before .before .args) .plan .instances) 12 (omega (arith, (c .before .before .if1) .taken)) ((c .before .before .before .before .before .before .before .before .before .before .before .before .pre) .0 .instances) .1)
 
-write-in-requires : tie.Need-write-in-requires Inv-loop μ-loop
-write-in-requires c κs = let e = (c .before .before .before .widen2) .ensures ∙ (c .before .before .before .before .before .before .before .before .before .before .before .before .before .before .before .pre) .2 .spots ((c .before .before .before .before .before .before .before .loop) .k) (omega (arith, (c .before .before .before .before .before .if1) .taken)) in
+write-at-requires : tie.Need-write-at-requires Inv-loop μ-loop
+write-at-requires c κs = let e = (c .before .before .before .widen2) .ensures ∙ (c .before .before .before .before .before .before .before .before .before .before .before .before .before .before .before .pre) .2 .spots ((c .before .before .before .before .before .before .before .loop) .k) (omega (arith, (c .before .before .before .before .before .if1) .taken)) in
     let whole = in-there (now ((c .before .before .before .before .before .before .before .before .before .before .before .before .before .before .before .args) .start)) ((c .before .before .before .before .before .before .before .loop) .k) ((c .before .before .before .before .before .before .before .before .before .before .before .before .before .before .before .args) .plan .instances) 12 (omega (arith, (c .before .before .before .before .before .if1) .taken)) ((c .before .before .before .before .before .before .before .before .before .before .before .before .before .before .before .pre) .0 .instances) .1 in
-    (record { arcs = (c .before .before .before .before .before .before .before .before .before .before .before .before .before .before .before .pre) .0 .search .good; long = (c .before .before .before .before .before .before .before .loop) .inv .2 ∙ (c .before .before .before .before .before .before .before .before .before .before .before .before .before .before .before .pre) .0 .long; there = rw e whole }, (c .before .before .before .before .before .before .before .before .before .before .before .before .before .before .before .pre) .0 .search)
+    (record { arcs = (c .before .before .before .before .before .before .before .before .before .before .before .before .before .before .before .pre) .0 .search .good; long = (c .before .before .before .before .before .before .before .loop) .inv .2 ∙ (c .before .before .before .before .before .before .before .before .before .before .before .before .before .before .before .pre) .0 .long; there = rw e whole }, (c .before .before .before .before .before .before .before .before .before .before .before .before .before .before .before .pre) .0 .search, (c .before .before .before .before .before .before .before .before .before .before .before .before .before .before .before .pre) .3)
 
 mul-widen-4 : tie.Need-mul-widen-4 Inv-loop μ-loop
 mul-widen-4 c = omega (arith, (c .before .before .before .before .before .before .before .before .before .before .before .before .before .before .pre) .1, (c .before .before .before .before .if1) .taken)
@@ -89,7 +89,8 @@ widen-requires-3 : tie.Need-widen-requires-3 Inv-loop μ-loop
 widen-requires-3 c κs = search needs
 
 loop-less : tie.Need-loop-less Inv-loop μ-loop
-loop-less c = let s = chain-next (now ((c .before .before .before .before .before .before .before .before .before .before .before .before .before .before .before .before .args) .start)) (now ((c .before .before .before .before .before .before .before .before .before .before .before .before .before .before .before .before .args) .celltype)) ((c .before .before .before .before .before .before .before .before .before .before .before .before .before .before .before .before .args) .plan .instances) (now ((c .before .before .before .before .before .before .before .before .before .before .before .before .before .before .before .before .args) .index)) ((c .before .before .before .before .before .before .before .before .before .before .before .before .before .before .before .before .pre) .2) ((c .before .before .before .before .before .before .before .before .loop) .k) _
+loop-less c = let b = now ((c .before .before .before .before .before .before .before .before .before .before .before .before .before .before .before .before .args) .start) in
+    let s = chain-next linkPlace (typeBucket b) ((c .before .before .before .before .before .before .before .before .before .before .before .before .before .before .before .before .args) .plan .instances) (now ((c .before .before .before .before .before .before .before .before .before .before .before .before .before .before .before .before .args) .index)) ((c .before .before .before .before .before .before .before .before .before .before .before .before .before .before .before .before .pre) .2 .chain) (bucketOf (now ((c .before .before .before .before .before .before .before .before .before .before .before .before .before .before .before .before .args) .celltype))) ((c .before .before .before .before .before .before .before .before .loop) .k) _
     (omega (arith, (c .before .before .before .before .before .before .if1) .taken)) ((c .before .before .before .before .before .before .before .before .loop) .inv .0) ((c .widen3) .ensures) in
     omega (arith, s .1, (c .before .before .before .before .before .before .if1) .taken)
 
@@ -99,13 +100,14 @@ loop-again c = let b = now ((c .before .before .before .before .before .before .
     let n = (c .before .before .before .before .before .before .before .before .before .before .before .before .before .before .before .before .args) .plan .instances in
     let t = now ((c .before .before .before .before .before .before .before .before .before .before .before .before .before .before .before .before .args) .index) in
     let l = (c .before .before .before .before .before .before .before .before .loop) in
+    let low : l .k < n = omega (arith, (c .before .before .before .before .before .before .if1) .taken) in
     let test = typed b type in
     let write = writesIn b (now ((c .before .before .before .before .before .before .before .before .before .before .before .before .before .before .before .before .args) .text)) ((c .before .before .before .before .before .before .before .before .before .before .before .before .before .before .before .before .args) .plan .slash) n ((c .before .before .before .before .before .before .before .before .before .before .before .before .before .before .before .before .args) .plan .arcs) ((c .before .before .before .before .before .before .before .before .before .before .before .before .before .before .before .before .args) .plan .first) ((c .before .before .before .before .before .before .before .before .before .before .before .before .before .before .before .before .args) .entry) ((c .before .before .before .before .before .before .before .before .before .before .before .before .before .before .before .before .args) .rows) in
     let out = now ((c .before .before .before .before .before .before .before .before .before .before .before .before .before .before .before .before .args) .out) in
-    let e = (c .before .before .before .before .widen2) .ensures ∙ (c .before .before .before .before .before .before .before .before .before .before .before .before .before .before .before .before .pre) .2 .spots (l .k) (omega (arith, (c .before .before .before .before .before .before .if1) .taken)) in
+    let e = (c .before .before .before .before .widen2) .ensures ∙ (c .before .before .before .before .before .before .before .before .before .before .before .before .before .before .before .before .pre) .2 .spots (l .k) low in
     let is = type-is b type (l .k) _ _ e ((c .before .before .before .is-of) .ensures) in
-    let skip = skip-next b type n t ((c .before .before .before .before .before .before .before .before .before .before .before .before .before .before .before .before .pre) .2) (writtenOf test write out) (written-same test write out) (l .k) _ (omega (arith, (c .before .before .before .before .before .before .if1) .taken)) (l .inv .0) ((c .widen3) .ensures) in
-    let on = chain-next b type n t ((c .before .before .before .before .before .before .before .before .before .before .before .before .before .before .before .before .pre) .2) (l .k) _ (omega (arith, (c .before .before .before .before .before .before .if1) .taken)) (l .inv .0) ((c .widen3) .ensures) .0 in
+    let skip = skip-next linkPlace (typeBucket b) n t ((c .before .before .before .before .before .before .before .before .before .before .before .before .before .before .before .before .pre) .2 .chain) (bucketOf type) test (other-bucket b type) (writtenOf test write out) (written-same test write out) (l .k) _ low (l .inv .0) ((c .widen3) .ensures) in
+    let on = chain-next linkPlace (typeBucket b) n t ((c .before .before .before .before .before .before .before .before .before .before .before .before .before .before .before .before .pre) .2 .chain) (bucketOf type) (l .k) _ low (l .inv .0) ((c .widen3) .ensures) .0 in
     ⊎-elim
     (λ w. (on, written-with test (l .k) write out _ (l .out) (is ∙ w .0 .taken) (l .inv .1) (w .5 ∙ w .2 .ensures ∙ rw e refl) ∙ sym skip,
     ap length (w .5) ∙ w .3 .given ∙ l .inv .2))
@@ -137,7 +139,7 @@ write-chained-spec =
     element-copy-out-widen-2
     widen-requires-2
     is-of-requires
-    write-in-requires
+    write-at-requires
     mul-widen-4
     add-widen-2
     mul-widen-5
