@@ -38,6 +38,9 @@ pub enum Whom {
 
 const CHECK: u8 = 84;
 
+// DEVICE's kind, as it stands in an entry's row.
+const DEVICE: u64 = 4;
+
 // The words of an entry's and of a cell's row.
 const ENTRY_WORDS: usize = 28;
 
@@ -309,11 +312,14 @@ fn copy_sheet(start: &[u8], out: &mut [u8])
     }
 }
 
-// Whether a row of the table is one of a DEVICE: the index for it is made only then.
-fn any_device(entries: &[u64]) -> bool {
-    let rows = entries.len() / ENTRY_WORDS;
+// Whether one of the first `count` rows is of a DEVICE: the index for it is made only then.
+fn any_device(entries: &[u64], count: usize) -> bool {
+    let room = entries.len() / ENTRY_WORDS;
     let mut k = 0;
-    while k < rows {
+    while k < room {
+        if k == count {
+            return false;
+        }
         if entries[ENTRY_WORDS * k] == DEVICE {
             return true;
         }
@@ -322,13 +328,14 @@ fn any_device(entries: &[u64]) -> bool {
     false
 }
 
-// Applies a text that was read to a starting sheet that was checked. After a refusal the output sheet equals the starting sheet.
+// Applies a text that was read, with so many cells and entries, to a starting sheet that was checked. After a refusal the output sheet equals the starting sheet.
 fn apply_text(
     start: &[u8],
     text: &[u8],
     plan: Plan,
     cells: &[u64],
     count: usize,
+    all: usize,
     entries: &[u64],
     out: &mut [u8],
 ) -> Annotated
@@ -343,8 +350,9 @@ fn apply_text(
     sheet::mark_arcs(start, plan.arcs, plan.first, &mut marks);
     let mut index = [0u32; 135168];
     bytype::index_types(start, plan.instances, &mut index);
+    let devices = any_device(entries, all);
     let mut ends = [0u32; 135168];
-    byend::index_ends(start, plan.arcs, plan.first, any_device(entries), &mut ends);
+    byend::index_ends(start, plan.arcs, plan.first, devices, &mut ends);
     copy_sheet(start, out);
     let went = apply_cells(
         start,
@@ -423,7 +431,7 @@ pub fn annotate_counted(
                         first: first_arc,
                         slash: read.slash,
                     };
-                    let went = apply_text(start, text, plan, cells, count, entries, out);
+                    let went = apply_text(start, text, plan, cells, count, all, entries, out);
                     Counted {
                         answer: went,
                         cells: count,
