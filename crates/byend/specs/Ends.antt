@@ -1,21 +1,19 @@
 -- The index of a sheet's arcs by the bucket of their second end without its last component; and why DEVICE finds all its arcs in one bucket, that of
 -- the instance's path.
 -- Assumes nothing.
-use Prim.Native.Nat.{ℕ, zero, suc, _+_, _-_, _*_, _≤_, _<_}
-use mathlib.Core.Path.{_≡_, refl, sym, _∙_, ap}
-use mathlib.Core.Bool.{Bool, true, false, not}
+use Prim.Native.Nat.{ℕ, zero, suc, _+_, _-_, _≤_, _<_}
+use mathlib.Core.Path.{_≡_, refl, _∙_, ap}
+use mathlib.Core.Bool.{Bool, true, false}
 use mathlib.Core.List.{List, [], _∷_, _++_}
-use native.Mathlib.Numerals.{add-one}
 use native.Mathlib.Omega.{arith}
-use lib.Dec.{eqb, ltb}
 use lib.ListN.{length, getD, set, take, drop, length-append, length-drop, length-take, List·getD-append}
 use lib.Seq.{getD-take, getD-set-same}
-use borrow.Author.Tests.{eqb-true, eqb-false, ne-eqb}
-use Rattle.classes.specs.Choice.{pick, and, or}
-use Rattle.names.specs.Shape.{divider, escapes}
-use Rattle.names.specs.Order.{cmp, sameText}
+use borrow.Author.Tests.{eqb-true}
+use Rattle.classes.specs.Choice.{and}
+use Rattle.names.specs.Shape.{escapes}
+use Rattle.names.specs.Order.{sameText}
 use Rattle.names.specs.Orders.{cmp-1}
-use Rattle.names.specs.Name.{canon, canonFrom, turned, full, sameName, startBehind, startFrom, start-cons, start-le, lastStart, lastOf, oneBelow, both}
+use Rattle.names.specs.Name.{full, sameName, startBehind, startFrom, start-le, lastStart, lastOf, oneBelow}
 use Rattle.sheetform.specs.Form.{keyAt}
 use Rattle.sheetlaws.specs.Sheet.{place}
 use Rattle.bytype.specs.ByType.{bucketTo, bucketOf}

@@ -1,7 +1,7 @@
 -- A DEVICE's port that is a plain word, in an instance whose path does not end in a backslash: the port's full name is the path plus one component.
 -- Assumes nothing.
-use Prim.Native.Nat.{ℕ, zero, suc, _+_, _-_, _≤_, _<_}
-use mathlib.Core.Path.{_≡_, refl, sym, _∙_, ap}
+use Prim.Native.Nat.{ℕ, _+_, _-_, _≤_, _<_}
+use mathlib.Core.Path.{_≡_, refl, _∙_, ap}
 use mathlib.Core.Bool.{Bool, true, false, not}
 use mathlib.Core.List.{List, [], _∷_, _++_}
 use native.Mathlib.Numerals.{add-one}
@@ -9,13 +9,13 @@ use native.Mathlib.Omega.{arith}
 use lib.Dec.{eqb}
 use lib.ListN.{length, getD, drop, drop-of-length-le}
 use lib.Seq.{drop-cons}
-use borrow.Author.Tests.{eqb-true, eqb-false, ne-eqb}
-use Rattle.classes.specs.Choice.{pick, and, or}
+use borrow.Author.Tests.{eqb-true}
+use Rattle.classes.specs.Choice.{pick, and}
 use Rattle.names.specs.Shape.{divider, escapes}
-use Rattle.names.specs.Order.{cmp, sameText}
+use Rattle.names.specs.Order.{sameText}
 use Rattle.names.specs.Orders.{cmp-1}
-use Rattle.names.specs.Name.{canon, canonFrom, canon-cons, turned, full, sameName, startBehind, startFrom, start-cons, lastStart}
-use Rattle.bytype.specs.ByType.{bucketTo, bucketOf}
+use Rattle.names.specs.Name.{canon, canonFrom, turned, full, sameName, startBehind, startFrom, start-cons, lastStart}
+use Rattle.bytype.specs.ByType.{bucketOf}
 use Rattle.byend.specs.Ends.{belowBucket, front-bucket}
 
 -- no divider and no backslash: `.`, `/`, `\`
@@ -145,6 +145,7 @@ port-bucket path port x slash o p h =
     back : (path : List ℕ) → behind path - 1 ≡ length path
     back [] = refl
     back (c ∷ r) = omega arith
+
     last-start : (path : List ℕ) → openEnd path ≡ true → lastStart (full path port) ≡ behind path
     last-start [] o = start-plain port 0 0 p
     last-start (c ∷ r) o = start-behind c r port false 0 0 o ∙ start-plain port _ _ p

@@ -1,7 +1,7 @@
 -- An index of n things by bucket, in a table: at h, below 4,096, stands the number of the first thing in bucket h, and at a place of its own for each
 -- thing the number of the next one in its bucket. Where there is none stands n.
 -- Assumes nothing.
-use Prim.Native.Nat.{ℕ, zero, suc, _+_, _-_, _*_, _≤_, _<_}
+use Prim.Native.Nat.{ℕ, zero, suc, _+_, _-_, _≤_, _<_}
 use mathlib.Core.Path.{_≡_, refl, sym, _∙_, subst}
 use mathlib.Core.Bool.{Bool, true, false}
 use mathlib.Core.List.{List}
@@ -168,7 +168,7 @@ module _ (at bucket : ℕ → ℕ) (n : ℕ) (t : List ℕ) (c : Chained at buck
   chain-next k r h o d = let f = next-first k r h o d in let l = f .from in (on-chain (k + 1) r f, omega arith)
 
   module _ (hit : ℕ → Bool) (out : (i : ℕ) → inside i ≡ false → hit i ≡ false) {A : Type 0} (g : ℕ → A)
-    (same : (k : ℕ) → hit k ≡ false → g (k + 1) ≡ g k) where
+      (same : (k : ℕ) → hit k ≡ false → g (k + 1) ≡ g k) where
     pub skip-head : (h r : ℕ) → h ≡ wanted → h < 4096 → r ≡ getD t h 0 → g r ≡ g 0
     skip-head h r e l d = passed g inside hit same out 0 n r (head-first h r e l d)
 

@@ -1,13 +1,13 @@
 -- When all the arcs that DEVICE means in an instance stand in the bucket of the instance's path.
 -- Assumes nothing.
 use Prim.Native.Nat.{ℕ}
-use mathlib.Core.Path.{_≡_, refl, sym, _∙_}
+use mathlib.Core.Path.{_≡_, refl}
 use mathlib.Core.Bool.{Bool, true, false}
 use mathlib.Core.List.{List}
 use native.Mathlib.Omega.{arith}
 use lib.Dec.{eqb}
 use borrow.Author.Tests.{eqb-false}
-use Rattle.classes.specs.Choice.{pick, and}
+use Rattle.classes.specs.Choice.{pick}
 use Rattle.names.specs.Name.{canon, full, sameName, oneBelow, partOf, both}
 use Rattle.sheetform.specs.Form.{keyAt, pathAt}
 use Rattle.sheetlaws.specs.Sheet.{place}

@@ -29,13 +29,7 @@ fn widen(number: u32) -> usize
 }
 
 // The place of the arc with a number: from the landmark before it.
-fn arc_place(
-    sheet: &[u8],
-    count: usize,
-    first: usize,
-    marks: &[u32; 4096],
-    number: usize,
-) -> usize
+fn arc_place(sheet: &[u8], count: usize, first: usize, marks: &[u32; 4096], number: usize) -> usize
     requires { ⌜ (ArcSearch (now sheet) count first (now marks)) × (number < count) ⌝ }
     ensures { λ r. ⌜ r ≡ place (now (sheet .entry)) number first ⌝ }
 {

@@ -83,12 +83,18 @@ enum-told : tie.Need-enum-told Inv-loop μ-loop
 enum-told c = search needs
 
 add-first : tie.Need-add-first Inv-loop μ-loop
-add-first c = let long = (c .before .before .before .before .before .before .before .before .before .before .before .before .before .good) .1 .1 .1 .1 .1 .1 .1 .0 in
-    omega (arith, (c .before .before .before .before .before .before .before .before .before .before .before .before .before .pre) .2, long)
+add-first c =
+    let good = c .before .before .before .before .before .before .before .before .before .before .before .before .before .good in
+    let pre = c .before .before .before .before .before .before .before .before .before .before .before .before .before .pre in
+    let long = good .1 .1 .1 .1 .1 .1 .1 .0 in
+    omega (arith, pre .2, long)
 
 mul-first : tie.Need-mul-first Inv-loop μ-loop
-mul-first c = let long = (c .before .before .before .before .before .before .before .before .before .before .before .before .before .good) .1 .1 .1 .1 .1 .1 .1 .0 in
-    omega (arith, (c .before .before .before .before .before .before .before .before .before .before .before .before .before .pre) .2, long)
+mul-first c =
+    let good = c .before .before .before .before .before .before .before .before .before .before .before .before .before .good in
+    let pre = c .before .before .before .before .before .before .before .before .before .before .before .before .before .pre in
+    let long = good .1 .1 .1 .1 .1 .1 .1 .0 in
+    omega (arith, pre .2, long)
 
 shared-slice-read-first : tie.Need-shared-slice-read-first Inv-loop μ-loop
 shared-slice-read-first c =

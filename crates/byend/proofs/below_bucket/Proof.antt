@@ -1,9 +1,8 @@
 -- `byend::below_bucket` meets its contract.
 -- Assumes nothing.
-use Rattle.names.specs.Name.{lastStart}
 use Prim.Native.Nat.{_-_}
 use Rattle.byend.specs.Ends.{belowBucket, below-none, bucket-take}
-use mathlib.Core.Path.{_≡_, refl, sym, _∙_, ap}
+use mathlib.Core.Path.{_≡_, refl, sym, _∙_}
 use denote.Ref.{now}
 use native.Mathlib.Omega.{arith}
 use borrow.Author.Needs.{needs}
@@ -14,7 +13,11 @@ last-component-requires : tie.Need-last-component-requires
 last-component-requires c κs = search needs
 
 returns : tie.Need-returns
-returns c = (sym (below-none (now ((c .before .before .before .args) .name)) (sym ((c .before .last-component) .ensures .0) ∙ (c .if1) .taken)), omega arith)
+returns c =
+    let args = c .before .before .before .args in
+    let last-component = c .before .last-component in
+    let if1 = c .if1 in
+    (sym (below-none (now (args .name)) (sym (last-component .ensures .0) ∙ if1 .taken)), omega arith)
 
 sub-end : tie.Need-sub-end
 sub-end c = search needs
@@ -33,10 +36,14 @@ bucket-of-requires c κs = search needs
 
 returns-2 : tie.Need-returns-2
 unfolding belowBucket
-returns-2 c = let x = now ((c .before .before .before .before .before .args) .name) in
-    let s = (c .before .before .before .last-component) .result in
+returns-2 c =
+    let args = c .before .before .before .before .before .args in
+    let last-component = c .before .before .before .last-component in
+    let bucket-of = c .bucket-of in
+    let x = now (args .name) in
+    let s = last-component .result in
     let e : s - 1 - 0 ≡ s - 1 = omega arith in
-    ((c .bucket-of) .ensures .0 ∙ rw e (bucket-take x (s - 1) (omega (arith, (c .before .before .before .last-component) .ensures .1)) ∙ rw (← (c .before .before .before .last-component) .ensures .0) refl), (c .bucket-of) .ensures .1)
+    (bucket-of .ensures .0 ∙ rw e (bucket-take x (s - 1) (omega (arith, last-component .ensures .1)) ∙ rw (← last-component .ensures .0) refl), bucket-of .ensures .1)
 
 pub below-bucket-spec : {M : Type 1} → statement M
 below-bucket-spec =

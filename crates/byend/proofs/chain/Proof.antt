@@ -5,11 +5,11 @@ use Rattle.bytype.specs.Chains.{Chained, Noted, chained-more, put-stays}
 use Rattle.sheet.specs.Find.{arc-there}
 use Rattle.sheetlaws.specs.Sheet.{place}
 use denote.Ref.{now}
-use lib.ListN.{length, getD, length-set}
+use lib.ListN.{length, length-set}
 use borrow.Author.Needs.{needs}
 use native.Mathlib.Omega.{arith}
-use mathlib.Core.Path.{_≡_, refl, sym, _∙_, ap}
-use Prim.Native.Nat.{ℕ, suc, _+_, _-_, _≤_, _<_}
+use mathlib.Core.Path.{_≡_, refl, _∙_, ap}
+use Prim.Native.Nat.{suc, _-_, _≤_, _<_}
 use Rattle.byend.proofs.chain.Statement.{statement}
 use Rattle.byend.proofs.chain.Tie as tie
 
@@ -20,7 +20,9 @@ abbrev μ-loop : tie.MeasureT-loop
 μ-loop sheet count first ends₀ k₀ ends k = k
 
 loop-holds : tie.Need-loop-holds Inv-loop μ-loop
-loop-holds c = (omega arith, (c .before .pre) .3, (c .before .pre) .4, (c .before .pre) .2)
+loop-holds c =
+    let pre = c .before .pre in
+    (omega arith, pre .3, pre .4, pre .2)
 
 sub-k : tie.Need-sub-k Inv-loop μ-loop
 sub-k c = search needs
@@ -38,8 +40,13 @@ widen-requires : tie.Need-widen-requires Inv-loop μ-loop
 widen-requires c κs = search needs
 
 second-end-requires : tie.Need-second-end-requires Inv-loop μ-loop
-second-end-requires c κs = let e = (c .widen) .ensures ∙ (c .before .before .before .loop) .inv .2 ((c .before .before .before .loop) .k - 1) (omega arith) in
-    rw e (arc-there (now ((c .before .before .before .before .before .args) .sheet)) ((c .before .before .before .loop) .k - 1) ((c .before .before .before .before .before .args) .count) ((c .before .before .before .before .before .args) .first) (omega arith) ((c .before .before .before .before .before .pre) .0) .1)
+second-end-requires c κs =
+    let widen = c .widen in
+    let loop' = c .before .before .before .loop in
+    let args = c .before .before .before .before .before .args in
+    let pre = c .before .before .before .before .before .pre in
+    let e = widen .ensures ∙ loop' .inv .2 (loop' .k - 1) (omega arith) in
+    rw e (arc-there (now (args .sheet)) (loop' .k - 1) (args .count) (args .first) (omega arith) (pre .0) .1)
 
 below-bucket-requires : tie.Need-below-bucket-requires Inv-loop μ-loop
 below-bucket-requires c κs = search needs
@@ -72,21 +79,31 @@ loop-less : tie.Need-loop-less Inv-loop μ-loop
 loop-less c = search needs
 
 loop-again : tie.Need-loop-again Inv-loop μ-loop
-loop-again c = let l = (c .before .before .before .before .before .before .loop) in
-    let b = now ((c .before .before .before .before .before .before .before .before .args) .sheet) in
-    let e = (c .before .before .before .widen) .ensures ∙ l .inv .2 (l .k - 1) (omega arith) in
+loop-again c =
+    let loop' = c .before .before .before .before .before .before .loop in
+    let args = c .before .before .before .before .before .before .before .before .args in
+    let widen = c .before .before .before .widen in
+    let below-bucket = c .before .below-bucket in
+    let second-end = c .before .before .second-end in
+    let l = loop' in
+    let b = now (args .sheet) in
+    let e = widen .ensures ∙ l .inv .2 (l .k - 1) (omega arith) in
     let s : l .k ≡ suc (l .k - 1) = omega arith in
-    let h = (c .before .below-bucket) .ensures .1 in
+    let h = below-bucket .ensures .1 in
     let long : endPlace (l .k - 1) < length (l .ends) = omega arith in
-    let f = (c .before .before .before .before .before .before .before .before .args) .first in
-    (omega arith, chained-more endPlace (endBucket b f) ((c .before .before .before .before .before .before .before .before .args) .count) ends-far ends-apart (l .k - 1) (l .ends) ((c .before .below-bucket) .result) h long
-    (rw s at (l .inv .1)) (omega arith) ((c .before .below-bucket) .ensures .0 ∙ ap belowBucket ((c .before .before .second-end) .ensures ∙ rw e refl)),
-    (λ i g. put-stays endPlace (endBucket b f) ((c .before .before .before .before .before .before .before .before .args) .count) ends-far ends-apart (l .k - 1) (l .ends) ((c .before .below-bucket) .result) h long (endPlace i) (λ q. omega arith) (λ q. omega arith) ∙ l .inv .2 i (omega arith)),
-    simp length-set (l .inv .3))
+    let f = args .first in (
+      omega arith,
+      chained-more endPlace (endBucket b f) (args .count) ends-far ends-apart (l .k - 1) (l .ends) (below-bucket .result) h long
+          (rw s at (l .inv .1)) (omega arith) (below-bucket .ensures .0 ∙ ap belowBucket (second-end .ensures ∙ rw e refl)),
+      (λ i g. put-stays endPlace (endBucket b f) (args .count) ends-far ends-apart (l .k - 1) (l .ends) (below-bucket .result) h long (endPlace i) (λ q. omega arith) (λ q. omega arith) ∙ l .inv .2 i (omega arith)),
+      simp length-set (l .inv .3),
+    )
 
 returns : tie.Need-returns Inv-loop μ-loop
-returns c = let e : (c .before .loop) .k ≡ 0 = omega arith in
-    ((c .before .loop) .inv .3, rw e at ((c .before .loop) .inv .1))
+returns c =
+    let loop' = c .before .loop in
+    let e : loop' .k ≡ 0 = omega arith in
+    (loop' .inv .3, rw e at (loop' .inv .1))
 
 pub chain-spec : {M : Type 1} → statement M
 chain-spec =

@@ -27,8 +27,12 @@ unfolding nth
 loop-holds c = (omega arith, refl, (λ i g. absurd (omega arith)), (λ h g. refl), (c .before .pre) .3)
 
 cast-ends : tie.Need-cast-ends Inv-loop μ-loop
-cast-ends c = let t = arc-there (now ((c .before .before .before .args) .sheet)) ((c .before .loop) .k) ((c .before .before .before .args) .count) ((c .before .before .before .args) .first) (search needs) ((c .before .before .before .pre) .0) in
-    omega (arith, (c .before .loop) .inv .1, t .0, (c .before .before .before .pre) .1)
+cast-ends c =
+    let args = c .before .before .before .args in
+    let loop' = c .before .loop in
+    let pre = c .before .before .before .pre in
+    let t = arc-there (now (args .sheet)) (loop' .k) (args .count) (args .first) (search needs) (pre .0) in
+    omega (arith, loop' .inv .1, t .0, pre .1)
 
 add-ends : tie.Need-add-ends Inv-loop μ-loop
 add-ends c = search needs
@@ -40,7 +44,11 @@ element-write-ends : tie.Need-element-write-ends Inv-loop μ-loop
 element-write-ends c = search needs
 
 next-arc-requires : tie.Need-next-arc-requires Inv-loop μ-loop
-next-arc-requires c κs = rw ((c .before .loop) .inv .1) (arc-there (now ((c .before .before .before .args) .sheet)) ((c .before .loop) .k) ((c .before .before .before .args) .count) ((c .before .before .before .args) .first) (search needs) ((c .before .before .before .pre) .0) .1)
+next-arc-requires c κs =
+    let loop' = c .before .loop in
+    let args = c .before .before .before .args in
+    let pre = c .before .before .before .pre in
+    rw (loop' .inv .1) (arc-there (now (args .sheet)) (loop' .k) (args .count) (args .first) (search needs) (pre .0) .1)
 
 add-k : tie.Need-add-k Inv-loop μ-loop
 add-k c = search needs
@@ -49,15 +57,25 @@ loop-less : tie.Need-loop-less Inv-loop μ-loop
 loop-less c = search needs
 
 loop-again : tie.Need-loop-again Inv-loop μ-loop
-loop-again c = let l = (c .before .before .loop) in
-    let b = now ((c .before .before .before .before .args) .sheet) in
-    (omega arith, (c .next-arc) .ensures ∙ rw (l .inv .1) (sym (nth-next (arNext b) (l .k) ((c .before .before .before .before .args) .first))),
-    noted-more endPlace (λ i. place b i ((c .before .before .before .before .args) .first)) ends-apart (l .k) (l .ends) (l .here) (omega arith) (l .inv .1) (l .inv .2),
-    (λ h g. getD-set-other (l .ends) (4096 + l .k) h (l .here) 0 (λ e. omega arith) ∙ l .inv .3 h g), simp length-set (l .inv .4))
+loop-again c =
+    let loop' = c .before .before .loop in
+    let args = c .before .before .before .before .args in
+    let next-arc = c .next-arc in
+    let l = loop' in
+    let b = now (args .sheet) in (
+      omega arith,
+      next-arc .ensures ∙ rw (l .inv .1) (sym (nth-next (arNext b) (l .k) (args .first))),
+      noted-more endPlace (λ i. place b i (args .first)) ends-apart (l .k) (l .ends) (l .here) (omega arith) (l .inv .1) (l .inv .2),
+      (λ h g. getD-set-other (l .ends) (4096 + l .k) h (l .here) 0 (λ e. omega arith) ∙ l .inv .3 h g),
+      simp length-set (l .inv .4),
+    )
 
 returns : tie.Need-returns Inv-loop μ-loop
-returns c = let e : (c .before .loop) .k ≡ (c .before .before .before .args) .count = omega arith in
-    ((c .before .loop) .inv .4, rw e at ((c .before .loop) .inv .2), (c .before .loop) .inv .3)
+returns c =
+    let loop' = c .before .loop in
+    let args = c .before .before .before .args in
+    let e : loop' .k ≡ args .count = omega arith in
+    (loop' .inv .4, rw e at (loop' .inv .2), loop' .inv .3)
 
 pub note-places-spec : {M : Type 1} → statement M
 note-places-spec =

@@ -1,6 +1,6 @@
 -- `byend::open_end` meets its contract.
 -- Assumes nothing.
-use mathlib.Core.Path.{_≡_, refl, sym, _∙_}
+use mathlib.Core.Path.{sym}
 use Rattle.byend.specs.Ports.{open-none, open-last}
 use denote.Ref.{now}
 use borrow.Author.Needs.{needs}
@@ -8,7 +8,10 @@ use Rattle.byend.proofs.open_end.Statement.{statement}
 use Rattle.byend.proofs.open_end.Tie as tie
 
 returns : tie.Need-returns
-returns c = sym (open-none (now ((c .before .args) .path)) ((c .if1) .taken))
+returns c =
+    let args = c .before .args in
+    let if1 = c .if1 in
+    sym (open-none (now (args .path)) (if1 .taken))
 
 sub-result : tie.Need-sub-result
 sub-result c = search needs
@@ -17,7 +20,10 @@ shared-slice-read-result : tie.Need-shared-slice-read-result
 shared-slice-read-result c = search needs
 
 returns-2 : tie.Need-returns-2
-returns-2 c = sym (open-last (now ((c .before .before .args) .path)) ((c .before .if1) .left))
+returns-2 c =
+    let args = c .before .before .args in
+    let if1 = c .before .if1 in
+    sym (open-last (now (args .path)) (if1 .left))
 
 pub open-end-spec : {M : Type 1} → statement M
 open-end-spec = tie.close (tie.spec returns sub-result shared-slice-read-result returns-2)

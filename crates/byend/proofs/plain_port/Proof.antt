@@ -26,7 +26,12 @@ is-plain-requires : tie.Need-is-plain-requires Inv-loop μ-loop
 is-plain-requires c κs = search needs
 
 returns : tie.Need-returns Inv-loop μ-loop
-returns c = sym ((c .before .before .before .before .loop) .inv .1 ∙ plain-turn (now ((c .before .before .before .before .before .before .args) .port)) ((c .before .before .before .before .loop) .k) (omega arith) ∙ rw (← (c .before .is-plain) .ensures, no ((c .before .is-plain) .result) ((c .if1) .taken)))
+returns c =
+    let loop' = c .before .before .before .before .loop in
+    let args = c .before .before .before .before .before .before .args in
+    let is-plain = c .before .is-plain in
+    let if1 = c .if1 in
+    sym (loop' .inv .1 ∙ plain-turn (now (args .port)) (loop' .k) (omega arith) ∙ rw (← is-plain .ensures, no (is-plain .result) (if1 .taken)))
 
 add-k : tie.Need-add-k Inv-loop μ-loop
 add-k c = search needs
@@ -35,10 +40,18 @@ loop-less : tie.Need-loop-less Inv-loop μ-loop
 loop-less c = search needs
 
 loop-again : tie.Need-loop-again Inv-loop μ-loop
-loop-again c = (omega arith, (c .before .before .before .before .loop) .inv .1 ∙ plain-turn (now ((c .before .before .before .before .before .before .args) .port)) ((c .before .before .before .before .loop) .k) (omega arith) ∙ rw (← (c .before .is-plain) .ensures, yes ((c .before .is-plain) .result) ((c .if1) .left)))
+loop-again c =
+    let loop' = c .before .before .before .before .loop in
+    let args = c .before .before .before .before .before .before .args in
+    let is-plain = c .before .is-plain in
+    let if1 = c .if1 in
+    (omega arith, loop' .inv .1 ∙ plain-turn (now (args .port)) (loop' .k) (omega arith) ∙ rw (← is-plain .ensures, yes (is-plain .result) (if1 .left)))
 
 returns-2 : tie.Need-returns-2 Inv-loop μ-loop
-returns-2 c = sym ((c .before .loop) .inv .1 ∙ plain-end (now ((c .before .before .before .args) .port)) ((c .before .loop) .k) (omega arith))
+returns-2 c =
+    let loop' = c .before .loop in
+    let args = c .before .before .before .args in
+    sym (loop' .inv .1 ∙ plain-end (now (args .port)) (loop' .k) (omega arith))
 
 pub plain-port-spec : {M : Type 1} → statement M
 plain-port-spec =

@@ -2,11 +2,11 @@
 -- Assumes nothing.
 use Rattle.bytype.specs.ByType.{bucketTo, bucketOf, bucket-more, bucket-small}
 use denote.Ref.{now}
-use lib.ListN.{length, getD, length-set}
+use lib.ListN.{length}
 use borrow.Author.Needs.{needs}
 use native.Mathlib.Omega.{arith}
-use mathlib.Core.Path.{_≡_, refl, sym, _∙_}
-use Prim.Native.Nat.{_-_, _≤_, _<_}
+use mathlib.Core.Path.{_≡_, refl}
+use Prim.Native.Nat.{_-_, _≤_}
 use Rattle.bytype.proofs.bucket_of.Statement.{statement}
 use Rattle.bytype.proofs.bucket_of.Tie as tie
 
@@ -21,7 +21,10 @@ unfolding bucketTo
 loop-holds c = (omega arith, refl)
 
 mul-bucket : tie.Need-mul-bucket Inv-loop μ-loop
-mul-bucket c = omega (arith, (c .before .loop) .inv .1, bucket-small (now ((c .before .before .before .args) .text)) ((c .before .loop) .k))
+mul-bucket c =
+    let loop' = c .before .loop in
+    let args = c .before .before .before .args in
+    omega (arith, loop' .inv .1, bucket-small (now (args .text)) (loop' .k))
 
 shared-slice-read-wide : tie.Need-shared-slice-read-wide Inv-loop μ-loop
 shared-slice-read-wide c = search needs
@@ -30,7 +33,11 @@ wide-requires : tie.Need-wide-requires Inv-loop μ-loop
 wide-requires c κs = search needs
 
 add-bucket : tie.Need-add-bucket Inv-loop μ-loop
-add-bucket c = omega (arith, (c .before .before .before .loop) .inv .1, bucket-small (now ((c .before .before .before .before .before .args) .text)) ((c .before .before .before .loop) .k), (c .before .shared-slice-known2) .given ((c .before .before .before .loop) .k))
+add-bucket c =
+    let loop' = c .before .before .before .loop in
+    let args = c .before .before .before .before .before .args in
+    let shared-slice-known2 = c .before .shared-slice-known2 in
+    omega (arith, loop' .inv .1, bucket-small (now (args .text)) (loop' .k), shared-slice-known2 .given (loop' .k))
 
 add-k : tie.Need-add-k Inv-loop μ-loop
 add-k c = search needs
@@ -39,12 +46,18 @@ loop-less : tie.Need-loop-less Inv-loop μ-loop
 loop-less c = search needs
 
 loop-again : tie.Need-loop-again Inv-loop μ-loop
-loop-again c = (omega arith, rw (bucket-more, (c .wide) .ensures, (c .before .before .before .loop) .inv .1))
+loop-again c =
+    let wide = c .wide in
+    let loop' = c .before .before .before .loop in
+    (omega arith, rw (bucket-more, wide .ensures, loop' .inv .1))
 
 returns : tie.Need-returns Inv-loop μ-loop
 unfolding bucketOf
-returns c = let e : (c .before .loop) .k ≡ length (now ((c .before .before .before .args) .text)) = omega arith in
-    (rw (← e) ((c .before .loop) .inv .1), omega (arith, (c .before .loop) .inv .1, bucket-small (now ((c .before .before .before .args) .text)) ((c .before .loop) .k)))
+returns c =
+    let loop' = c .before .loop in
+    let args = c .before .before .before .args in
+    let e : loop' .k ≡ length (now (args .text)) = omega arith in
+    (rw (← e) (loop' .inv .1), omega (arith, loop' .inv .1, bucket-small (now (args .text)) (loop' .k)))
 
 pub bucket-of-spec : {M : Type 1} → statement M
 bucket-of-spec =

@@ -3,13 +3,12 @@ use Rattle.bytype.specs.ByType.{typeBucket, spotOf, bucketOf, linkPlace,
 -- `bytype::chain` meets its contract. Invariant: the table is the index of the instances from k on.
 -- Assumes nothing.
 use Rattle.sheet.specs.Find.{in-there}
-use Rattle.sheetlaws.specs.Sheet.{inEnd, nth}
 use denote.Ref.{now}
-use lib.ListN.{length, getD, length-set}
+use lib.ListN.{length, length-set}
 use borrow.Author.Needs.{needs}
 use native.Mathlib.Omega.{arith}
-use mathlib.Core.Path.{_≡_, refl, sym, _∙_, ap}
-use Prim.Native.Nat.{ℕ, suc, _+_, _*_, _-_, _≤_, _<_}
+use mathlib.Core.Path.{_≡_, refl, _∙_, ap}
+use Prim.Native.Nat.{suc, _-_, _≤_, _<_}
 use Rattle.bytype.proofs.chain.Statement.{statement}
 use Rattle.bytype.proofs.chain.Tie as tie
 
@@ -20,7 +19,9 @@ abbrev μ-loop : tie.MeasureT-loop
 μ-loop sheet count index₀ k₀ index k = k
 
 loop-holds : tie.Need-loop-holds Inv-loop μ-loop
-loop-holds c = (omega arith, (c .before .pre) .3, (c .before .pre) .4, (c .before .pre) .2)
+loop-holds c =
+    let pre = c .before .pre in
+    (omega arith, pre .3, pre .4, pre .2)
 
 sub-k : tie.Need-sub-k Inv-loop μ-loop
 sub-k c = search needs
@@ -41,8 +42,13 @@ widen-requires : tie.Need-widen-requires Inv-loop μ-loop
 widen-requires c κs = search needs
 
 instance-type-requires : tie.Need-instance-type-requires Inv-loop μ-loop
-instance-type-requires c κs = let e = (c .widen) .ensures ∙ (c .before .before .before .loop) .inv .2 ((c .before .before .before .loop) .k - 1) (omega arith) in
-    rw e (in-there (now ((c .before .before .before .before .before .args) .sheet)) ((c .before .before .before .loop) .k - 1) ((c .before .before .before .before .before .args) .count) 12 (omega arith) ((c .before .before .before .before .before .pre) .0) .1)
+instance-type-requires c κs =
+    let widen = c .widen in
+    let loop' = c .before .before .before .loop in
+    let args = c .before .before .before .before .before .args in
+    let pre = c .before .before .before .before .before .pre in
+    let e = widen .ensures ∙ loop' .inv .2 (loop' .k - 1) (omega arith) in
+    rw e (in-there (now (args .sheet)) (loop' .k - 1) (args .count) 12 (omega arith) (pre .0) .1)
 
 bucket-of-requires : tie.Need-bucket-of-requires Inv-loop μ-loop
 bucket-of-requires c κs = search needs
@@ -78,19 +84,30 @@ loop-less : tie.Need-loop-less Inv-loop μ-loop
 loop-less c = search needs
 
 loop-again : tie.Need-loop-again Inv-loop μ-loop
-loop-again c = let l = (c .before .before .before .before .before .before .loop) in
-    let b = now ((c .before .before .before .before .before .before .before .before .args) .sheet) in
-    let e = (c .before .before .before .widen) .ensures ∙ l .inv .2 (l .k - 1) (omega arith) in
+loop-again c =
+    let loop' = c .before .before .before .before .before .before .loop in
+    let args = c .before .before .before .before .before .before .before .before .args in
+    let widen = c .before .before .before .widen in
+    let bucket-of = c .before .bucket-of in
+    let instance-type = c .before .before .instance-type in
+    let l = loop' in
+    let b = now (args .sheet) in
+    let e = widen .ensures ∙ l .inv .2 (l .k - 1) (omega arith) in
     let s : l .k ≡ suc (l .k - 1) = omega arith in
-    let h = (c .before .bucket-of) .ensures .1 in
-    let long : linkPlace (l .k - 1) < length (l .index) = omega arith in
-    (omega arith, chained-more linkPlace (typeBucket b) ((c .before .before .before .before .before .before .before .before .args) .count) links-far links-apart (l .k - 1) (l .index) ((c .before .bucket-of) .result) h long
-    (rw s at (l .inv .1)) (omega arith) ((c .before .bucket-of) .ensures .0 ∙ ap bucketOf ((c .before .before .instance-type) .ensures ∙ rw e refl)),
-    spots-stay b ((c .before .before .before .before .before .before .before .before .args) .count) (l .k - 1) (l .index) ((c .before .bucket-of) .result) h long (l .inv .2), simp length-set (l .inv .3))
+    let h = bucket-of .ensures .1 in
+    let long : linkPlace (l .k - 1) < length (l .index) = omega arith in (
+      omega arith,
+      chained-more linkPlace (typeBucket b) (args .count) links-far links-apart (l .k - 1) (l .index) (bucket-of .result) h long
+          (rw s at (l .inv .1)) (omega arith) (bucket-of .ensures .0 ∙ ap bucketOf (instance-type .ensures ∙ rw e refl)),
+      spots-stay b (args .count) (l .k - 1) (l .index) (bucket-of .result) h long (l .inv .2),
+      simp length-set (l .inv .3),
+    )
 
 returns : tie.Need-returns Inv-loop μ-loop
-returns c = let e : (c .before .loop) .k ≡ 0 = omega arith in
-    record { chain = rw e at ((c .before .loop) .inv .1); spots = (c .before .loop) .inv .2 }
+returns c =
+    let loop' = c .before .loop in
+    let e : loop' .k ≡ 0 = omega arith in
+    record { chain = rw e at (loop' .inv .1); spots = loop' .inv .2 }
 
 pub chain-spec : {M : Type 1} → statement M
 chain-spec =

@@ -1,12 +1,11 @@
 -- `bytype::clear_heads` meets its contract. Invariant: the heads so far are at the count.
 -- Assumes nothing.
 use Rattle.bytype.specs.Chains.{Noted, headPlace, noted-more, heads-apart}
-use denote.Ref.{now}
-use lib.ListN.{length, getD, length-set}
+use lib.ListN.{length, length-set}
 use borrow.Author.Needs.{needs}
 use native.Mathlib.Omega.{arith}
-use mathlib.Core.Path.{_≡_, refl, sym, _∙_}
-use Prim.Native.Nat.{ℕ, _-_, _≤_, _<_}
+use mathlib.Core.Path.{_≡_, refl}
+use Prim.Native.Nat.{_-_, _≤_}
 use Rattle.bytype.proofs.clear_heads.Statement.{statement}
 use Rattle.bytype.proofs.clear_heads.Tie as tie
 
@@ -35,11 +34,16 @@ loop-less : tie.Need-loop-less Inv-loop μ-loop
 loop-less c = search needs
 
 loop-again : tie.Need-loop-again Inv-loop μ-loop
-loop-again c = (omega arith, simp length-set ((c .before .loop) .inv .1), noted-more headPlace (λ h. (c .before .before .args) .count) heads-apart ((c .before .loop) .k) ((c .before .loop) .index) ((c .before .before .args) .count) (omega arith) refl ((c .before .loop) .inv .2))
+loop-again c =
+    let loop' = c .before .loop in
+    let args = c .before .before .args in
+    (omega arith, simp length-set (loop' .inv .1), noted-more headPlace (λ h. args .count) heads-apart (loop' .k) (loop' .index) (args .count) (omega arith) refl (loop' .inv .2))
 
 returns : tie.Need-returns Inv-loop μ-loop
-returns c = let e : (c .before .loop) .k ≡ 4096 = omega arith in
-    ((c .before .loop) .inv .1, rw e at ((c .before .loop) .inv .2))
+returns c =
+    let loop' = c .before .loop in
+    let e : loop' .k ≡ 4096 = omega arith in
+    (loop' .inv .1, rw e at (loop' .inv .2))
 
 pub clear-heads-spec : {M : Type 1} → statement M
 clear-heads-spec =

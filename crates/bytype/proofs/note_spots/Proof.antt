@@ -27,8 +27,12 @@ unfolding nth
 loop-holds c = (omega arith, refl, (λ i g. absurd (omega arith)), (λ h g. refl), (c .before .pre) .3)
 
 cast-index : tie.Need-cast-index Inv-loop μ-loop
-cast-index c = let t = in-there (now ((c .before .before .before .args) .sheet)) ((c .before .loop) .k) ((c .before .before .before .args) .count) 12 (search needs) ((c .before .before .before .pre) .0) in
-    omega (arith, (c .before .loop) .inv .1, t .0, (c .before .before .before .pre) .1)
+cast-index c =
+    let args = c .before .before .before .args in
+    let loop' = c .before .loop in
+    let pre = c .before .before .before .pre in
+    let t = in-there (now (args .sheet)) (loop' .k) (args .count) 12 (search needs) (pre .0) in
+    omega (arith, loop' .inv .1, t .0, pre .1)
 
 mul-index : tie.Need-mul-index Inv-loop μ-loop
 mul-index c = search needs
@@ -43,7 +47,11 @@ element-write-index : tie.Need-element-write-index Inv-loop μ-loop
 element-write-index c = search needs
 
 next-instance-requires : tie.Need-next-instance-requires Inv-loop μ-loop
-next-instance-requires c κs = rw ((c .before .loop) .inv .1) (in-there (now ((c .before .before .before .args) .sheet)) ((c .before .loop) .k) ((c .before .before .before .args) .count) 12 (search needs) ((c .before .before .before .pre) .0) .1)
+next-instance-requires c κs =
+    let loop' = c .before .loop in
+    let args = c .before .before .before .args in
+    let pre = c .before .before .before .pre in
+    rw (loop' .inv .1) (in-there (now (args .sheet)) (loop' .k) (args .count) 12 (search needs) (pre .0) .1)
 
 add-k : tie.Need-add-k Inv-loop μ-loop
 add-k c = search needs
@@ -52,14 +60,24 @@ loop-less : tie.Need-loop-less Inv-loop μ-loop
 loop-less c = search needs
 
 loop-again : tie.Need-loop-again Inv-loop μ-loop
-loop-again c = let l = (c .before .before .loop) in
-    (omega arith, (c .next-instance) .ensures ∙ rw (l .inv .1) (sym (nth-next (inEnd (now ((c .before .before .before .before .args) .sheet))) (l .k) 12)),
-    noted-more spotPlace (spotOf (now ((c .before .before .before .before .args) .sheet))) spots-apart (l .k) (l .index) (l .here) (omega arith) (l .inv .1) (l .inv .2),
-    (λ h g. getD-set-other (l .index) (4097 + 2 * l .k) h (l .here) 0 (λ e. omega arith) ∙ l .inv .3 h g), simp length-set (l .inv .4))
+loop-again c =
+    let loop' = c .before .before .loop in
+    let next-instance = c .next-instance in
+    let args = c .before .before .before .before .args in
+    let l = loop' in (
+      omega arith,
+      next-instance .ensures ∙ rw (l .inv .1) (sym (nth-next (inEnd (now (args .sheet))) (l .k) 12)),
+      noted-more spotPlace (spotOf (now (args .sheet))) spots-apart (l .k) (l .index) (l .here) (omega arith) (l .inv .1) (l .inv .2),
+      (λ h g. getD-set-other (l .index) (4097 + 2 * l .k) h (l .here) 0 (λ e. omega arith) ∙ l .inv .3 h g),
+      simp length-set (l .inv .4),
+    )
 
 returns : tie.Need-returns Inv-loop μ-loop
-returns c = let e : (c .before .loop) .k ≡ (c .before .before .before .args) .count = omega arith in
-    ((c .before .loop) .inv .4, rw e at ((c .before .loop) .inv .2), (c .before .loop) .inv .3)
+returns c =
+    let loop' = c .before .loop in
+    let args = c .before .before .before .args in
+    let e : loop' .k ≡ args .count = omega arith in
+    (loop' .inv .4, rw e at (loop' .inv .2), loop' .inv .3)
 
 pub note-spots-spec : {M : Type 1} → statement M
 note-spots-spec =

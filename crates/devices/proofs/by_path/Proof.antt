@@ -2,7 +2,6 @@
 -- Assumes nothing.
 use Rattle.devices.specs.ByPath.{byPath}
 use borrow.Author.Tests.{eq-eqb, ne-eqb}
-use mathlib.Core.Path.{_≡_, refl, sym, _∙_}
 use borrow.Author.Needs.{needs}
 use Rattle.devices.proofs.by_path.Statement.{statement}
 use Rattle.devices.proofs.by_path.Tie as tie
@@ -25,11 +24,23 @@ plain-port-requires c κs = search needs
 
 returns-2 : tie.Need-returns-2
 unfolding byPath
-returns-2 c = rw (ne-eqb _ 0 ((c .before .before .before .before .before .if1) .left), ← (c .before .before .before .before .instance-path) .ensures, ← (c .before .before .before .open-end) .ensures, (c .before .before .if2) .taken, ← (c .before .part-of) .ensures) ((c .plain-port) .ensures)
+returns-2 c =
+    let if1 = c .before .before .before .before .before .if1 in
+    let instance-path = c .before .before .before .before .instance-path in
+    let open-end = c .before .before .before .open-end in
+    let if2 = c .before .before .if2 in
+    let part-of = c .before .part-of in
+    let plain-port = c .plain-port in
+    rw (ne-eqb _ 0 (if1 .left), ← instance-path .ensures, ← open-end .ensures, if2 .taken, ← part-of .ensures) (plain-port .ensures)
 
 returns-3 : tie.Need-returns-3
 unfolding byPath
-returns-3 c = rw (ne-eqb _ 0 ((c .before .before .before .if1) .left), ← (c .before .before .instance-path) .ensures, ← (c .before .open-end) .ensures, (c .if2) .left)
+returns-3 c =
+    let if1 = c .before .before .before .if1 in
+    let instance-path = c .before .before .instance-path in
+    let open-end = c .before .open-end in
+    let if2 = c .if2 in
+    rw (ne-eqb _ 0 (if1 .left), ← instance-path .ensures, ← open-end .ensures, if2 .left)
 
 pub by-path-spec : {M : Type 1} → statement M
 by-path-spec =

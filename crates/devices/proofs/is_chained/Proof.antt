@@ -1,7 +1,7 @@
 -- `devices::is_chained` meets its contract.
 -- Assumes nothing.
 use native.Mathlib.Omega.{arith}
-use mathlib.Core.Path.{_≡_, refl, sym, _∙_}
+use mathlib.Core.Path.{_≡_, sym, _∙_}
 use Prim.Native.Nat.{ℕ}
 use borrow.Author.Needs.{needs}
 use Rattle.devices.proofs.is_chained.Statement.{statement}
@@ -20,7 +20,11 @@ by-path-requires : tie.Need-by-path-requires
 by-path-requires c κs = search needs
 
 returns-3 : tie.Need-returns-3
-returns-3 c = λ e. ((c .before .before .before .if1) .left, (c .before .if2) .left, sym ((c .by-path) .ensures) ∙ e)
+returns-3 c =
+    let if1 = c .before .before .before .if1 in
+    let if2 = c .before .if2 in
+    let by-path = c .by-path in
+    λ e. (if1 .left, if2 .left, sym (by-path .ensures) ∙ e)
 
 pub is-chained-spec : {M : Type 1} → statement M
 is-chained-spec =

@@ -1,7 +1,7 @@
 -- `devices::refusal_at` meets its contract.
 -- Assumes nothing.
 use Rattle.applying.specs.Bytes.{refusalIn}
-use borrow.Author.Tests.{eq-eqb, ne-eqb}
+use borrow.Author.Tests.{eq-eqb}
 use borrow.Author.Needs.{needs}
 use Rattle.devices.proofs.refusal_at.Statement.{statement}
 use Rattle.devices.proofs.refusal_at.Tie as tie
@@ -10,13 +10,21 @@ is-chained-requires : tie.Need-is-chained-requires
 is-chained-requires c κs = search needs
 
 refusal-chained-requires : tie.Need-refusal-chained-requires
-refusal-chained-requires c κs = let w = (c .before .is-chained) .ensures ((c .if1) .taken) in
-    let r = (c .before .before .before .before .before .pre) .2 (w .1) in
-    ((c .before .before .before .before .before .pre) .0, (c .before .before .before .before .before .pre) .1, r .0, r .1, w .2)
+refusal-chained-requires c κs =
+    let is-chained = c .before .is-chained in
+    let if1 = c .if1 in
+    let pre = c .before .before .before .before .before .pre in
+    let w = is-chained .ensures (if1 .taken) in
+    let r = pre .2 (w .1) in
+    (pre .0, pre .1, r .0, r .1, w .2)
 
 returns : tie.Need-returns
 unfolding refusalIn
-returns c = rw (eq-eqb _ 4 ((c .before .before .is-chained) .ensures ((c .before .if1) .taken) .0)) ((c .refusal-chained) .ensures)
+returns c =
+    let is-chained = c .before .before .is-chained in
+    let if1 = c .before .if1 in
+    let refusal-chained = c .refusal-chained in
+    rw (eq-eqb _ 4 (is-chained .ensures (if1 .taken) .0)) (refusal-chained .ensures)
 
 refusal-in-requires : tie.Need-refusal-in-requires
 refusal-in-requires c κs = search needs

@@ -6,12 +6,12 @@ use Rattle.bytype.specs.Chains.{OnChain, chain-head, chain-next, skip-head, ski
 use Rattle.bytype.specs.ByType.{bucketOf, typeBucket, linkPlace, other-bucket}
 use Rattle.sheet.specs.Find.{in-there}
 use denote.Ref.{now}
-use lib.ListN.{length, getD}
+use lib.ListN.{length}
 use borrow.Author.Needs.{needs}
 use native.Mathlib.Omega.{arith}
 use mathlib.Core.Logic.{⊎-elim}
 use mathlib.Core.Path.{_≡_, refl, sym, _∙_, ap}
-use Prim.Native.Nat.{ℕ, _+_, _*_, _-_, _≤_, _<_}
+use Prim.Native.Nat.{_-_, _<_}
 use Rattle.starred.proofs.write_chained.Statement.{statement}
 use Rattle.starred.proofs.write_chained.Tie as tie
 
@@ -37,90 +37,154 @@ widen-requires c κs = search needs
 
 loop-holds : tie.Need-loop-holds Inv-loop μ-loop
 unfolding writtenOf
-loop-holds c = let b = now ((c .before .before .before .before .before .before .before .args) .start) in
-    let type = now ((c .before .before .before .before .before .before .before .args) .celltype) in
-    let n = (c .before .before .before .before .before .before .before .args) .plan .instances in
-    let t = now ((c .before .before .before .before .before .before .before .args) .index) in
+loop-holds c =
+    let args = c .before .before .before .before .before .before .before .args in
+    let pre = c .before .before .before .before .before .before .before .pre in
+    let bucket-of = c .before .before .bucket-of in
+    let widen = c .widen in
+    let b = now (args .start) in
+    let type = now (args .celltype) in
+    let n = args .plan .instances in
+    let t = now (args .index) in
     let test = typed b type in
-    let write = writesIn b (now ((c .before .before .before .before .before .before .before .args) .text)) ((c .before .before .before .before .before .before .before .args) .plan .slash) n ((c .before .before .before .before .before .before .before .args) .plan .arcs) ((c .before .before .before .before .before .before .before .args) .plan .first) ((c .before .before .before .before .before .before .before .args) .entry) ((c .before .before .before .before .before .before .before .args) .rows) in
-    let out = now ((c .before .before .before .before .before .before .before .args) .out) in
-    (chain-head linkPlace (typeBucket b) n t ((c .before .before .before .before .before .before .before .pre) .2 .chain) (bucketOf type) _ _ ((c .before .before .bucket-of) .ensures .0) ((c .before .before .bucket-of) .ensures .1) ((c .widen) .ensures),
-    sym (skip-head linkPlace (typeBucket b) n t ((c .before .before .before .before .before .before .before .pre) .2 .chain) (bucketOf type) test (other-bucket b type) (writtenOf test write out) (written-same test write out) _ _ ((c .before .before .bucket-of) .ensures .0)
-    ((c .before .before .bucket-of) .ensures .1) ((c .widen) .ensures)),
-    refl)
+    let write = writesIn b (now (args .text)) (args .plan .slash) n (args .plan .arcs) (args .plan .first) (args .entry) (args .rows) in
+    let out = now (args .out) in (
+      chain-head linkPlace (typeBucket b) n t (pre .2 .chain) (bucketOf type) _ _ (bucket-of .ensures .0) (bucket-of .ensures .1) (widen .ensures),
+      sym (skip-head linkPlace (typeBucket b) n t (pre .2 .chain) (bucketOf type) test (other-bucket b type) (writtenOf test write out) (written-same test write out) _ _ (bucket-of .ensures .0)
+          (bucket-of .ensures .1) (widen .ensures)),
+      refl,
+    )
 
 mul-widen-2 : tie.Need-mul-widen-2 Inv-loop μ-loop
-mul-widen-2 c = omega (arith, (c .before .before .before .before .before .before .before .before .before .before .pre) .1, (c .if1) .taken)
+mul-widen-2 c =
+    let pre = c .before .before .before .before .before .before .before .before .before .before .pre in
+    let if1 = c .if1 in
+    omega (arith, pre .1, if1 .taken)
 
 add-widen : tie.Need-add-widen Inv-loop μ-loop
-add-widen c = omega (arith, (c .before .before .before .before .before .before .before .before .before .before .pre) .1, (c .if1) .taken)
+add-widen c =
+    let pre = c .before .before .before .before .before .before .before .before .before .before .pre in
+    let if1 = c .if1 in
+    omega (arith, pre .1, if1 .taken)
 
 mul-widen-3 : tie.Need-mul-widen-3 Inv-loop μ-loop
-mul-widen-3 c = omega (arith, (c .before .before .before .before .before .before .before .before .before .before .pre) .1, (c .if1) .taken)
+mul-widen-3 c =
+    let pre = c .before .before .before .before .before .before .before .before .before .before .pre in
+    let if1 = c .if1 in
+    omega (arith, pre .1, if1 .taken)
 
 element-copy-out-widen-2 : tie.Need-element-copy-out-widen-2 Inv-loop μ-loop
-element-copy-out-widen-2 c = omega (arith, (c .before .before .before .before .before .before .before .before .before .before .pre) .1, (c .if1) .taken)
+element-copy-out-widen-2 c =
+    let pre = c .before .before .before .before .before .before .before .before .before .before .pre in
+    let if1 = c .if1 in
+    omega (arith, pre .1, if1 .taken)
 
 widen-requires-2 : tie.Need-widen-requires-2 Inv-loop μ-loop
 widen-requires-2 c κs = search needs
 
 is-of-requires : tie.Need-is-of-requires Inv-loop μ-loop
-is-of-requires c κs = let e = (c .widen2) .ensures ∙ (c .before .before .before .before .before .before .before .before .before .before .before .before .pre) .2 .spots ((c .before .before .before .before .loop) .k) (omega (arith, (c .before .before .if1) .taken)) in
-    rw e (in-there (now ((c .before .before .before .before .before .before .before .before .before .before .before .before .args) .start)) ((c .before .before .before .before .loop) .k) ((c .before .before .before .before .before .before .before .before .before .before .before .before .args) .plan .instances) 12 (omega (arith, (c .before .before .if1) .taken)) ((c .before .before .before .before .before .before .before .before .before .before .before .before .pre) .0 .instances) .1)
+is-of-requires c κs =
+    let widen2 = c .widen2 in
+    let pre = c .before .before .before .before .before .before .before .before .before .before .before .before .pre in
+    let loop' = c .before .before .before .before .loop in
+    let if1 = c .before .before .if1 in
+    let args = c .before .before .before .before .before .before .before .before .before .before .before .before .args in
+    let e = widen2 .ensures ∙ pre .2 .spots (loop' .k) (omega (arith, if1 .taken)) in
+    rw e (in-there (now (args .start)) (loop' .k) (args .plan .instances) 12 (omega (arith, if1 .taken)) (pre .0 .instances) .1)
 
 write-at-requires : tie.Need-write-at-requires Inv-loop μ-loop
-write-at-requires c κs = let e = (c .before .before .before .widen2) .ensures ∙ (c .before .before .before .before .before .before .before .before .before .before .before .before .before .before .before .pre) .2 .spots ((c .before .before .before .before .before .before .before .loop) .k) (omega (arith, (c .before .before .before .before .before .if1) .taken)) in
-    let whole = in-there (now ((c .before .before .before .before .before .before .before .before .before .before .before .before .before .before .before .args) .start)) ((c .before .before .before .before .before .before .before .loop) .k) ((c .before .before .before .before .before .before .before .before .before .before .before .before .before .before .before .args) .plan .instances) 12 (omega (arith, (c .before .before .before .before .before .if1) .taken)) ((c .before .before .before .before .before .before .before .before .before .before .before .before .before .before .before .pre) .0 .instances) .1 in
-    (record { arcs = (c .before .before .before .before .before .before .before .before .before .before .before .before .before .before .before .pre) .0 .search .good; long = (c .before .before .before .before .before .before .before .loop) .inv .2 ∙ (c .before .before .before .before .before .before .before .before .before .before .before .before .before .before .before .pre) .0 .long; there = rw e whole }, (c .before .before .before .before .before .before .before .before .before .before .before .before .before .before .before .pre) .0 .search, (c .before .before .before .before .before .before .before .before .before .before .before .before .before .before .before .pre) .3)
+write-at-requires c κs =
+    let widen2 = c .before .before .before .widen2 in
+    let pre = c .before .before .before .before .before .before .before .before .before .before .before .before .before .before .before .pre in
+    let loop' = c .before .before .before .before .before .before .before .loop in
+    let if1 = c .before .before .before .before .before .if1 in
+    let args = c .before .before .before .before .before .before .before .before .before .before .before .before .before .before .before .args in
+    let e = widen2 .ensures ∙ pre .2 .spots (loop' .k) (omega (arith, if1 .taken)) in
+    let whole = in-there (now (args .start)) (loop' .k) (args .plan .instances) 12 (omega (arith, if1 .taken)) (pre .0 .instances) .1 in
+    (record { arcs = pre .0 .search .good; long = loop' .inv .2 ∙ pre .0 .long; there = rw e whole }, pre .0 .search, pre .3)
 
 mul-widen-4 : tie.Need-mul-widen-4 Inv-loop μ-loop
-mul-widen-4 c = omega (arith, (c .before .before .before .before .before .before .before .before .before .before .before .before .before .before .pre) .1, (c .before .before .before .before .if1) .taken)
+mul-widen-4 c =
+    let pre = c .before .before .before .before .before .before .before .before .before .before .before .before .before .before .pre in
+    let if1 = c .before .before .before .before .if1 in
+    omega (arith, pre .1, if1 .taken)
 
 add-widen-2 : tie.Need-add-widen-2 Inv-loop μ-loop
-add-widen-2 c = omega (arith, (c .before .before .before .before .before .before .before .before .before .before .before .before .before .before .pre) .1, (c .before .before .before .before .if1) .taken)
+add-widen-2 c =
+    let pre = c .before .before .before .before .before .before .before .before .before .before .before .before .before .before .pre in
+    let if1 = c .before .before .before .before .if1 in
+    omega (arith, pre .1, if1 .taken)
 
 mul-widen-5 : tie.Need-mul-widen-5 Inv-loop μ-loop
-mul-widen-5 c = omega (arith, (c .before .before .before .before .before .before .before .before .before .before .before .before .before .before .pre) .1, (c .before .before .before .before .if1) .taken)
+mul-widen-5 c =
+    let pre = c .before .before .before .before .before .before .before .before .before .before .before .before .before .before .pre in
+    let if1 = c .before .before .before .before .if1 in
+    omega (arith, pre .1, if1 .taken)
 
 element-copy-out-widen-3 : tie.Need-element-copy-out-widen-3 Inv-loop μ-loop
-element-copy-out-widen-3 c = omega (arith, (c .before .before .before .before .before .before .before .before .before .before .before .before .before .before .pre) .1, (c .before .before .before .before .if1) .taken)
+element-copy-out-widen-3 c =
+    let pre = c .before .before .before .before .before .before .before .before .before .before .before .before .before .before .pre in
+    let if1 = c .before .before .before .before .if1 in
+    omega (arith, pre .1, if1 .taken)
 
 widen-requires-3 : tie.Need-widen-requires-3 Inv-loop μ-loop
 widen-requires-3 c κs = search needs
 
 loop-less : tie.Need-loop-less Inv-loop μ-loop
-loop-less c = let b = now ((c .before .before .before .before .before .before .before .before .before .before .before .before .before .before .before .before .args) .start) in
-    let s = chain-next linkPlace (typeBucket b) ((c .before .before .before .before .before .before .before .before .before .before .before .before .before .before .before .before .args) .plan .instances) (now ((c .before .before .before .before .before .before .before .before .before .before .before .before .before .before .before .before .args) .index)) ((c .before .before .before .before .before .before .before .before .before .before .before .before .before .before .before .before .pre) .2 .chain) (bucketOf (now ((c .before .before .before .before .before .before .before .before .before .before .before .before .before .before .before .before .args) .celltype))) ((c .before .before .before .before .before .before .before .before .loop) .k) _
-    (omega (arith, (c .before .before .before .before .before .before .if1) .taken)) ((c .before .before .before .before .before .before .before .before .loop) .inv .0) ((c .widen3) .ensures) in
-    omega (arith, s .1, (c .before .before .before .before .before .before .if1) .taken)
+loop-less c =
+    let args = c .before .before .before .before .before .before .before .before .before .before .before .before .before .before .before .before .args in
+    let pre = c .before .before .before .before .before .before .before .before .before .before .before .before .before .before .before .before .pre in
+    let loop' = c .before .before .before .before .before .before .before .before .loop in
+    let if1 = c .before .before .before .before .before .before .if1 in
+    let widen3 = c .widen3 in
+    let b = now (args .start) in
+    let s = chain-next linkPlace (typeBucket b) (args .plan .instances) (now (args .index)) (pre .2 .chain) (bucketOf (now (args .celltype))) (loop' .k) _
+    (omega (arith, if1 .taken)) (loop' .inv .0) (widen3 .ensures) in
+    omega (arith, s .1, if1 .taken)
 
 loop-again : tie.Need-loop-again Inv-loop μ-loop
-loop-again c = let b = now ((c .before .before .before .before .before .before .before .before .before .before .before .before .before .before .before .before .args) .start) in
-    let type = now ((c .before .before .before .before .before .before .before .before .before .before .before .before .before .before .before .before .args) .celltype) in
-    let n = (c .before .before .before .before .before .before .before .before .before .before .before .before .before .before .before .before .args) .plan .instances in
-    let t = now ((c .before .before .before .before .before .before .before .before .before .before .before .before .before .before .before .before .args) .index) in
-    let l = (c .before .before .before .before .before .before .before .before .loop) in
-    let low : l .k < n = omega (arith, (c .before .before .before .before .before .before .if1) .taken) in
+loop-again c =
+    let args = c .before .before .before .before .before .before .before .before .before .before .before .before .before .before .before .before .args in
+    let loop' = c .before .before .before .before .before .before .before .before .loop in
+    let if1 = c .before .before .before .before .before .before .if1 in
+    let widen2 = c .before .before .before .before .widen2 in
+    let pre = c .before .before .before .before .before .before .before .before .before .before .before .before .before .before .before .before .pre in
+    let is-of = c .before .before .before .is-of in
+    let widen3 = c .widen3 in
+    let if2 = c .before .before .if2 in
+    let b = now (args .start) in
+    let type = now (args .celltype) in
+    let n = args .plan .instances in
+    let t = now (args .index) in
+    let l = loop' in
+    let low : l .k < n = omega (arith, if1 .taken) in
     let test = typed b type in
-    let write = writesIn b (now ((c .before .before .before .before .before .before .before .before .before .before .before .before .before .before .before .before .args) .text)) ((c .before .before .before .before .before .before .before .before .before .before .before .before .before .before .before .before .args) .plan .slash) n ((c .before .before .before .before .before .before .before .before .before .before .before .before .before .before .before .before .args) .plan .arcs) ((c .before .before .before .before .before .before .before .before .before .before .before .before .before .before .before .before .args) .plan .first) ((c .before .before .before .before .before .before .before .before .before .before .before .before .before .before .before .before .args) .entry) ((c .before .before .before .before .before .before .before .before .before .before .before .before .before .before .before .before .args) .rows) in
-    let out = now ((c .before .before .before .before .before .before .before .before .before .before .before .before .before .before .before .before .args) .out) in
-    let e = (c .before .before .before .before .widen2) .ensures ∙ (c .before .before .before .before .before .before .before .before .before .before .before .before .before .before .before .before .pre) .2 .spots (l .k) low in
-    let is = type-is b type (l .k) _ _ e ((c .before .before .before .is-of) .ensures) in
-    let skip = skip-next linkPlace (typeBucket b) n t ((c .before .before .before .before .before .before .before .before .before .before .before .before .before .before .before .before .pre) .2 .chain) (bucketOf type) test (other-bucket b type) (writtenOf test write out) (written-same test write out) (l .k) _ low (l .inv .0) ((c .widen3) .ensures) in
-    let on = chain-next linkPlace (typeBucket b) n t ((c .before .before .before .before .before .before .before .before .before .before .before .before .before .before .before .before .pre) .2 .chain) (bucketOf type) (l .k) _ low (l .inv .0) ((c .widen3) .ensures) .0 in
+    let write = writesIn b (now (args .text)) (args .plan .slash) n (args .plan .arcs) (args .plan .first) (args .entry) (args .rows) in
+    let out = now (args .out) in
+    let e = widen2 .ensures ∙ pre .2 .spots (l .k) low in
+    let is = type-is b type (l .k) _ _ e (is-of .ensures) in
+    let skip = skip-next linkPlace (typeBucket b) n t (pre .2 .chain) (bucketOf type) test (other-bucket b type) (writtenOf test write out) (written-same test write out) (l .k) _ low (l .inv .0) (widen3 .ensures) in
+    let on = chain-next linkPlace (typeBucket b) n t (pre .2 .chain) (bucketOf type) (l .k) _ low (l .inv .0) (widen3 .ensures) .0 in
     ⊎-elim
-    (λ w. (on, written-with test (l .k) write out _ (l .out) (is ∙ w .0 .taken) (l .inv .1) (w .5 ∙ w .2 .ensures ∙ rw e refl) ∙ sym skip,
-    ap length (w .5) ∙ w .3 .given ∙ l .inv .2))
+    (λ w. (
+      on,
+      written-with test (l .k) write out _ (l .out) (is ∙ w .0 .taken) (l .inv .1) (w .5 ∙ w .2 .ensures ∙ rw e refl) ∙ sym skip,
+      ap length (w .5) ∙ w .3 .given ∙ l .inv .2,
+    ))
     (λ w. (on, written-without test (l .k) write out _ (is ∙ w .0 .left) (w .1 ∙ l .inv .1) ∙ sym skip, ap length (w .1) ∙ l .inv .2))
-    ((c .before .before .if2) .came)
+    (if2 .came)
 
 same-length : tie.Need-same-length Inv-loop μ-loop
 same-length c = (c .before .before .loop) .inv .2
 
 returns : tie.Need-returns Inv-loop μ-loop
 unfolding writtenEvery
-returns c = let e : (c .before .before .loop) .k ≡ (c .before .before .before .before .before .before .before .before .before .before .args) .plan .instances = omega (arith, (c .before .before .loop) .inv .0 .to, (c .if1) .left) in
-    rw e at ((c .before .before .loop) .inv .1)
+returns c =
+    let loop' = c .before .before .loop in
+    let args = c .before .before .before .before .before .before .before .before .before .before .args in
+    let if1 = c .if1 in
+    let e : loop' .k ≡ args .plan .instances = omega (arith, loop' .inv .0 .to, if1 .left) in
+    rw e at (loop' .inv .1)
 
 pub write-chained-spec : {M : Type 1} → statement M
 write-chained-spec =
