@@ -5,6 +5,8 @@ ghost use lib.ListN.{length, getD};
 ghost use Rattle.sheetform.specs.Form.{checkOf};
 ghost use Rattle.sheetform.specs.declared.SheetCheck.the-variants.{Good};
 ghost use Rattle.sheet.specs.Find.{InstanceSearch};
+ghost use Rattle.bytype.specs.ByType.{IndexReady};
+ghost use Rattle.byend.specs.Ends.{EndsReady};
 ghost use Rattle.applying.specs.Ready.{Ready};
 ghost use Rattle.annotate.specs.Whom.{whomOf, InSheet};
 ghost use Rattle.annotate.specs.Entries.{refusalFor, appliedFor, EntriesRun};
@@ -35,6 +37,9 @@ pub enum Whom {
 }
 
 const CHECK: u8 = 84;
+
+// DEVICE's kind, as it stands in an entry's row.
+const DEVICE: u64 = 4;
 
 // The words of an entry's and of a cell's row.
 const ENTRY_WORDS: usize = 28;
@@ -69,6 +74,8 @@ fn apply_entry(
     text: &[u8],
     plan: Plan,
     marks: &[u32; 4096],
+    index: &[u32; 135168],
+    ends: &[u32; 135168],
     entries: &[u64],
     row: usize,
     whom: Whom,
@@ -76,7 +83,8 @@ fn apply_entry(
     out: &mut [u8],
 ) -> u8
     requires { ⌜ (Ready (now start) (plan .instances) (plan .arcs) (plan .first) (now marks) (now out)) × (row + 28 ≤ length (now entries))
-        × InSheet (now start) whom ⌝ }
+        × (InSheet (now start) whom) × (IndexReady (now start) (plan .instances) (now index))
+        × EndsReady (now start) (plan .arcs) (plan .first) (now ends) ⌝ }
     ensures { λ r. ⌜ (r ≡ refusalFor (now (start .entry)) (now (text .entry)) (plan .slash) (plan .instances) (plan .arcs) (plan .first)
         (now (entries .entry)) row whom (now (celltype .entry)) (now (out .entry)))
         × (now (out .exit) ≡ appliedFor (now (start .entry)) (now (text .entry)) (plan .slash) (plan .instances) (plan .arcs) (plan .first)
@@ -85,17 +93,29 @@ fn apply_entry(
     let entry = views::head_at(entries, row);
     let rows = amounts::expand(entries, row + 10, entry.group == CHECK, entries[row + 9]);
     match whom {
-        Whom::One(instance) => apply::apply_in(
+        Whom::One(instance) => devices::apply_at(
             start,
             text,
             plan,
             entry,
             rows,
             marks,
+            ends,
             out,
             instance,
         ),
-        Whom::Every => apply::apply_every(start, text, plan, entry, rows, marks, out, celltype),
+        Whom::Every => starred::apply_typed(
+            start,
+            text,
+            plan,
+            entry,
+            rows,
+            marks,
+            index,
+            ends,
+            out,
+            celltype,
+        ),
         Whom::Nobody(number) => 0,
     }
 }
@@ -106,6 +126,8 @@ fn apply_entries(
     text: &[u8],
     plan: Plan,
     marks: &[u32; 4096],
+    index: &[u32; 135168],
+    ends: &[u32; 135168],
     entries: &[u64],
     first: usize,
     count: usize,
@@ -114,7 +136,9 @@ fn apply_entries(
     out: &mut [u8],
 ) -> Annotated
     requires { ⌜ (Ready (now start) (plan .instances) (plan .arcs) (plan .first) (now marks) (now out))
-        × (28 * (first + count) ≤ length (now entries)) × InSheet (now start) whom ⌝ }
+        × (28 * (first + count) ≤ length (now entries)) × (InSheet (now start) whom)
+        × (IndexReady (now start) (plan .instances) (now index))
+        × EndsReady (now start) (plan .arcs) (plan .first) (now ends) ⌝ }
     ensures { λ r. ⌜ (length (now (out .exit)) ≡ length (now (out .entry)))
         × EntriesRun (now (start .entry)) (now (text .entry)) (plan .slash) (plan .instances) (plan .arcs) (plan .first) (now (entries .entry))
         first count whom (now (celltype .entry)) (now (out .entry)) (now (out .exit)) r ⌝ }
@@ -122,7 +146,19 @@ fn apply_entries(
     let mut k = 0;
     while k < count {
         let row = ENTRY_WORDS * (first + k);
-        let number = apply_entry(start, text, plan, marks, entries, row, whom, celltype, out);
+        let number = apply_entry(
+            start,
+            text,
+            plan,
+            marks,
+            index,
+            ends,
+            entries,
+            row,
+            whom,
+            celltype,
+            out,
+        );
         if number != 0 {
             return Annotated::Refused {
                 number: number,
@@ -141,6 +177,8 @@ fn apply_cell(
     plan: Plan,
     places: &[u32; 4096],
     marks: &[u32; 4096],
+    index: &[u32; 135168],
+    ends: &[u32; 135168],
     cells: &[u64],
     row: usize,
     entries: &[u64],
@@ -149,7 +187,9 @@ fn apply_cell(
 ) -> Annotated
     requires { ⌜ (Ready (now start) (plan .instances) (plan .arcs) (plan .first) (now marks) (now out))
         × (InstanceSearch (now start) (plan .instances) 12 (now places)) × (row + 7 ≤ length (now cells))
-        × (28 * (first + getD (now cells) (row + 6) 0) ≤ length (now entries)) ⌝ }
+        × (28 * (first + getD (now cells) (row + 6) 0) ≤ length (now entries))
+        × (IndexReady (now start) (plan .instances) (now index))
+        × EndsReady (now start) (plan .arcs) (plan .first) (now ends) ⌝ }
     ensures { λ r. ⌜ (length (now (out .exit)) ≡ length (now (out .entry)))
         × CellRun (now (start .entry)) (now (text .entry)) (plan .slash) (plan .instances) (plan .arcs) (plan .first) (now (cells .entry)) row
         (now (entries .entry)) first (now (out .entry)) (now (out .exit)) r ⌝ }
@@ -168,6 +208,8 @@ fn apply_cell(
                 text,
                 plan,
                 marks,
+                index,
+                ends,
                 entries,
                 first,
                 cell.entries,
@@ -181,6 +223,8 @@ fn apply_cell(
             text,
             plan,
             marks,
+            index,
+            ends,
             entries,
             first,
             cell.entries,
@@ -198,6 +242,8 @@ fn apply_cells(
     plan: Plan,
     places: &[u32; 4096],
     marks: &[u32; 4096],
+    index: &[u32; 135168],
+    ends: &[u32; 135168],
     cells: &[u64],
     count: usize,
     entries: &[u64],
@@ -205,7 +251,9 @@ fn apply_cells(
 ) -> Annotated
     requires { ⌜ (Ready (now start) (plan .instances) (plan .arcs) (plan .first) (now marks) (now out))
         × (InstanceSearch (now start) (plan .instances) 12 (now places)) × (7 * count ≤ length (now cells))
-        × (28 * entriesBefore (now cells) count ≤ length (now entries)) ⌝ }
+        × (28 * entriesBefore (now cells) count ≤ length (now entries))
+        × (IndexReady (now start) (plan .instances) (now index))
+        × EndsReady (now start) (plan .arcs) (plan .first) (now ends) ⌝ }
     ensures { λ r. ⌜ (length (now (out .exit)) ≡ length (now (out .entry)))
         × CellsRun (now (start .entry)) (now (text .entry)) (plan .slash) (plan .instances) (plan .arcs) (plan .first) (now (cells .entry)) count
         (now (entries .entry)) (now (out .entry)) (now (out .exit)) r ⌝ }
@@ -220,6 +268,8 @@ fn apply_cells(
             plan,
             places,
             marks,
+            index,
+            ends,
             cells,
             row,
             entries,
@@ -262,13 +312,30 @@ fn copy_sheet(start: &[u8], out: &mut [u8])
     }
 }
 
-// Applies a text that was read to a starting sheet that was checked. After a refusal the output sheet equals the starting sheet.
+// Whether one of the first `count` rows is of a DEVICE: the index for it is made only then.
+fn any_device(entries: &[u64], count: usize) -> bool {
+    let room = entries.len() / ENTRY_WORDS;
+    let mut k = 0;
+    while k < room {
+        if k == count {
+            return false;
+        }
+        if entries[ENTRY_WORDS * k] == DEVICE {
+            return true;
+        }
+        k += 1;
+    }
+    false
+}
+
+// Applies a text that was read, with so many cells and entries, to a starting sheet that was checked. After a refusal the output sheet equals the starting sheet.
 fn apply_text(
     start: &[u8],
     text: &[u8],
     plan: Plan,
     cells: &[u64],
     count: usize,
+    all: usize,
     entries: &[u64],
     out: &mut [u8],
 ) -> Annotated
@@ -281,6 +348,11 @@ fn apply_text(
     sheet::mark_instances(start, plan.instances, 12, &mut places);
     let mut marks = [0u32; 4096];
     sheet::mark_arcs(start, plan.arcs, plan.first, &mut marks);
+    let mut index = [0u32; 135168];
+    bytype::index_types(start, plan.instances, &mut index);
+    let devices = any_device(entries, all);
+    let mut ends = [0u32; 135168];
+    byend::index_ends(start, plan.arcs, plan.first, devices, &mut ends);
     copy_sheet(start, out);
     let went = apply_cells(
         start,
@@ -288,6 +360,8 @@ fn apply_text(
         plan,
         &places,
         &marks,
+        &index,
+        &ends,
         cells,
         count,
         entries,
@@ -357,7 +431,7 @@ pub fn annotate_counted(
                         first: first_arc,
                         slash: read.slash,
                     };
-                    let went = apply_text(start, text, plan, cells, count, entries, out);
+                    let went = apply_text(start, text, plan, cells, count, all, entries, out);
                     Counted {
                         answer: went,
                         cells: count,

@@ -1,7 +1,7 @@
 -- One turn of each loop over arcs or instances: with one that passes the test, and with one that does not.
 -- Assumes nothing.
 use Prim.Native.Nat.{ℕ, _+_, _≤_, _<_}
-use mathlib.Core.Path.{_≡_, refl}
+use mathlib.Core.Path.{_≡_, refl, sym}
 use mathlib.Core.Bool.{Bool, true, false}
 use mathlib.Core.List.{List}
 use native.Mathlib.Numerals.{add-one}
@@ -53,6 +53,17 @@ module _ (hit : ℕ → Bool) (k : ℕ) where
       → now ≡ writtenOf hit write out (k + 1)
   unfolding writtenOf
   written-without write out now h e = rw (add-one, h, e)
+
+-- None of the three changes over a thing that is no hit.
+pub some-same : (hit : ℕ → Bool) (k : ℕ) → hit k ≡ false → someOf hit (k + 1) ≡ someOf hit k
+some-same hit k h = sym (some-without hit k _ h refl)
+
+pub least-same : (hit : ℕ → Bool) (refusal : ℕ → ℕ) (k : ℕ) → hit k ≡ false → leastOf hit refusal (k + 1) ≡ leastOf hit refusal k
+least-same hit refusal k h = sym (least-without hit k refusal _ h refl)
+
+pub written-same : (hit : ℕ → Bool) (write : ℕ → List ℕ → List ℕ) (out : List ℕ) (k : ℕ) → hit k ≡ false
+    → writtenOf hit write out (k + 1) ≡ writtenOf hit write out k
+written-same hit write out k h = sym (written-without hit k write out _ h refl)
 
 -- An arc, an instance on the way: it is there whole, and the next one.
 module _ (b : List ℕ) (k f here : ℕ) where

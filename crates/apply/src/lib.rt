@@ -39,7 +39,7 @@ const INSTANCES: usize = 12;
 const LACKING: u8 = 14;
 
 // Whether DEVICE means the arc at a place, in the instance at another.
-fn device_hit(
+pub fn device_hit(
     start: &[u8],
     text: &[u8],
     slash: bool,
@@ -184,7 +184,7 @@ pub fn refusal_in(
 }
 
 // Writes what an entry makes of the arcs that it means there.
-fn write_in(
+pub fn write_in(
     start: &[u8],
     text: &[u8],
     plan: Plan,
@@ -251,7 +251,7 @@ pub fn apply_in(
 }
 
 // Whether the instance at a place is of a type.
-fn is_of(start: &[u8], instance: usize, celltype: &[u8]) -> bool
+pub fn is_of(start: &[u8], instance: usize, celltype: &[u8]) -> bool
     requires { ⌜ inEnd (now start) instance ≤ length (now start) ⌝ }
     ensures { λ r. ⌜ r ≡ sameText (typeAt (now (start .entry)) instance) (now (celltype .entry)) ⌝ }
 {

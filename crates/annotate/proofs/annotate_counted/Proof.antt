@@ -115,7 +115,7 @@ returns-4 c =
           (read-file .last .1 .0) (now (args .entries)) (read-file .last .1 .1 .0) (now (args .out)) (check2 .given .0 .0) (check2 .given .0 .1 .0)
           (check2 .given .0 .1 .1 .0) (sym (check-sheet .ensures) ∙ check2 .given .1) (if1 .left) (read-file .result) (read-file .ensures)
           (λ i. shared-slice-known .given i .fits) (answer2 .given .0 .0) (answer2 .given .0 .1 .0) (answer2 .given .1) (apply-text .result)
-          (apply-text .last .1 .1 .1 .1 .1 .1 .0) (apply-text .ensures),
+          (apply-text .last .1 .1 .1 .1 .1 .1 .1 .0) (apply-text .ensures),
       read-count (now (args .start)) (now (args .text)) (length (now (args .cells)) / 7) (length (now (args .entries)) / 28) (now (args .cells))
           (read-file .last .1 .0) (now (args .entries)) (read-file .last .1 .1 .0) (now (args .out)) (check2 .given .0 .0) (check2 .given .0 .1 .0)
           (check2 .given .0 .1 .1 .0) (sym (check-sheet .ensures) ∙ check2 .given .1) (if1 .left) (read-file .result) (read-file .ensures)

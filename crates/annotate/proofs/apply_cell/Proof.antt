@@ -33,7 +33,7 @@ apply-entries-requires c κs =
     let pre = c .before .before .before .before .before .before .before .before .before .before .before .before .pre in
     let cell-at = c .before .before .before .before .before .before .cell-at in
     let whole = rw (whom2 .given .1) at (whom-of .ensures .1) in
-    (pre .0, rw (cell-at .ensures) (pre .3), whole)
+    (pre .0, rw (cell-at .ensures) (pre .3), whole, pre .4, pre .5)
 
 enum-told : tie.Need-enum-told
 enum-told c = search needs
@@ -43,7 +43,7 @@ unfolding cellAt
 apply-entries-requires-2 c κs =
     let pre = c .before .before .before .before .before .before .before .before .before .before .before .pre in
     let cell-at = c .before .before .before .before .before .cell-at in
-    (pre .0, rw (cell-at .ensures) (pre .3), tt)
+    (pre .0, rw (cell-at .ensures) (pre .3), tt, pre .4, pre .5)
 
 returns : tie.Need-returns
 returns c =
@@ -73,7 +73,7 @@ returns-2 c =
       apply-entries .ensures .0,
       λ y g. cell-entries (now (args .start)) y (args .plan .instances) (args .plan .arcs) (args .plan .first) g
           (now (args .text)) (args .plan .slash) (now (args .cells)) (args .row) (now (args .entries)) (args .first) (now (args .out))
-          (apply-entries .last .1 .1 .1 .1 .1 .1 .1 .1 .1 .0) (One (whom2 .given .0 .0)) (apply-entries .result) (rw (cell-at .ensures) at e)
+          (apply-entries .last .1 .1 .1 .1 .1 .1 .1 .1 .1 .1 .1 .0) (One (whom2 .given .0 .0)) (apply-entries .result) (rw (cell-at .ensures) at e)
           (λ x z. one-somebody _ x z) (rw (part-of .ensures, cell-at .ensures) at (apply-entries .ensures .1)) y g,
     )
 
@@ -92,7 +92,7 @@ returns-3 c =
       apply-entries2 .ensures .0,
       λ y g. cell-entries (now (args .start)) y (args .plan .instances) (args .plan .arcs) (args .plan .first) g
           (now (args .text)) (args .plan .slash) (now (args .cells)) (args .row) (now (args .entries)) (args .first) (now (args .out))
-          (apply-entries2 .last .1 .1 .1 .1 .1 .1 .1 .1 .1 .0) Every (apply-entries2 .result) (rw (cell-at .ensures) at e) (λ x z. every-somebody x z)
+          (apply-entries2 .last .1 .1 .1 .1 .1 .1 .1 .1 .1 .1 .1 .0) Every (apply-entries2 .result) (rw (cell-at .ensures) at e) (λ x z. every-somebody x z)
           (rw (part-of .ensures, cell-at .ensures) at (apply-entries2 .ensures .1)) y g,
     )
 

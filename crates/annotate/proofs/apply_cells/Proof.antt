@@ -16,14 +16,14 @@ use Rattle.annotate.proofs.apply_cells.Statement.{statement}
 use Rattle.annotate.proofs.apply_cells.Tie as tie
 
 abbrev Inv-loop : tie.InvT-loop
-Inv-loop start text plan places marks cells count entries out₀ k₀ first₀ out k first =
+Inv-loop start text plan places marks index ends cells count entries out₀ k₀ first₀ out k first =
     (k ≤ count) × (first ≡ entriesBefore cells k)
     × ((y : Bytes start) (g : checkOf start ≡ Good (plan .instances) (plan .arcs) (plan .first)) → CellsSoFar start y (plan .instances) (plan .arcs)
     (plan .first) g text (plan .slash) cells count entries out₀ k out)
     × (length out ≡ length out₀)
 
 abbrev μ-loop : tie.MeasureT-loop
-μ-loop start text plan places marks cells count entries out₀ k₀ first₀ out k first = count - k
+μ-loop start text plan places marks index ends cells count entries out₀ k₀ first₀ out k first = count - k
 
 loop-holds : tie.Need-loop-holds Inv-loop μ-loop
 unfolding entriesBefore
@@ -52,6 +52,8 @@ apply-cell-requires c κs =
       omega (arith, pre .2),
       omega
           (arith, w, loop' .inv .1, pre .3),
+      pre .4,
+      pre .5,
     )
 
 enum-known-went : tie.Need-enum-known-went Inv-loop μ-loop
@@ -73,7 +75,7 @@ returns c =
       out .given ∙ loop' .inv .3,
       λ y g. cells-stop (now (args .start)) y (args .plan .instances) (args .plan .arcs) (args .plan .first) g
           (now (args .text)) (args .plan .slash) (now (args .cells)) (args .count) (now (args .entries)) (now (args .out)) (loop' .k) (loop' .out)
-          (apply-cell .last .1 .1 .1 .1 .1 .1 .1 .1 .1 .0) (loop' .first) (went .given .0 .0) (went .given .0 .1 .0) (omega arith) (loop' .inv .1)
+          (apply-cell .last .1 .1 .1 .1 .1 .1 .1 .1 .1 .1 .1 .0) (loop' .first) (went .given .0 .0) (went .given .0 .1 .0) (omega arith) (loop' .inv .1)
           (loop' .inv .2 y g) (rw (went .given .1) at (apply-cell .ensures .1)) y g,
     )
 
@@ -82,13 +84,17 @@ enum-told c = search needs
 
 add-first : tie.Need-add-first Inv-loop μ-loop
 add-first c =
+    let good = c .before .before .before .before .before .before .before .before .before .before .before .before .before .good in
     let pre = c .before .before .before .before .before .before .before .before .before .before .before .before .before .pre in
-    omega (arith, pre .2)
+    let long = good .1 .1 .1 .1 .1 .1 .1 .0 in
+    omega (arith, pre .2, long)
 
 mul-first : tie.Need-mul-first Inv-loop μ-loop
 mul-first c =
+    let good = c .before .before .before .before .before .before .before .before .before .before .before .before .before .good in
     let pre = c .before .before .before .before .before .before .before .before .before .before .before .before .before .pre in
-    omega (arith, pre .2)
+    let long = good .1 .1 .1 .1 .1 .1 .1 .0 in
+    omega (arith, pre .2, long)
 
 shared-slice-read-first : tie.Need-shared-slice-read-first Inv-loop μ-loop
 shared-slice-read-first c =
@@ -102,7 +108,7 @@ add-first-2 c =
     let good = c .before .before .before .before .before .before .before .before .before .before .before .before .before .before .good in
     let pre = c .before .before .before .before .before .before .before .before .before .before .before .before .before .before .pre in
     let w = entries-within (now (args .cells)) (loop' .k) (args .count) (omega arith) in
-    let l = good .1 .1 .1 .1 .1 .1 .1 .0 in
+    let l = good .1 .1 .1 .1 .1 .1 .1 .1 .1 .0 in
     omega (arith, w, loop' .inv .1, pre .3, l)
 
 add-k : tie.Need-add-k Inv-loop μ-loop
@@ -123,7 +129,7 @@ loop-again c =
       rw add-one (ap (λ (x : ℕ). x + getD (now (args .cells)) (7 * loop' .k + 6) 0) (loop' .inv .1)),
       (λ y g. rw add-one (cells-more (now (args .start)) y (args .plan .instances) (args .plan .arcs) (args .plan .first) g (now (args .text))
           (args .plan .slash) (now (args .cells)) (args .count) (now (args .entries)) (now (args .out)) (loop' .k) (loop' .out)
-          (apply-cell .last .1 .1 .1 .1 .1 .1 .1 .1 .1 .0) (loop' .first) (omega arith) (loop' .inv .1) (loop' .inv .2 y g)
+          (apply-cell .last .1 .1 .1 .1 .1 .1 .1 .1 .1 .1 .1 .0) (loop' .first) (omega arith) (loop' .inv .1) (loop' .inv .2 y g)
           (rw (enum-told .given .1) at (apply-cell .ensures .1)))),
       out .given ∙ loop' .inv .3,
     )

@@ -14,14 +14,14 @@ use Rattle.annotate.proofs.apply_entries.Statement.{statement}
 use Rattle.annotate.proofs.apply_entries.Tie as tie
 
 abbrev Inv-loop : tie.InvT-loop
-Inv-loop start text plan marks entries first count whom celltype out₀ k₀ out k =
+Inv-loop start text plan marks index ends entries first count whom celltype out₀ k₀ out k =
     (k ≤ count)
     × ((y : Bytes start) (g : checkOf start ≡ Good (plan .instances) (plan .arcs) (plan .first)) → EntriesSoFar start y (plan .instances) (plan .arcs)
     (plan .first) g text (plan .slash) entries first count whom celltype out₀ k out)
     × (length out ≡ length out₀)
 
 abbrev μ-loop : tie.MeasureT-loop
-μ-loop start text plan marks entries first count whom celltype out₀ k₀ out k = count - k
+μ-loop start text plan marks index ends entries first count whom celltype out₀ k₀ out k = count - k
 
 loop-holds : tie.Need-loop-holds Inv-loop μ-loop
 loop-holds c =
@@ -46,20 +46,20 @@ apply-entry-requires : tie.Need-apply-entry-requires Inv-loop μ-loop
 apply-entry-requires c κs =
     let pre = c .before .before .before .before .before .before .before .before .pre in
     let loop' = c .before .before .loop in
-    (record { instances = pre .0 .instances; search = pre .0 .search; long = loop' .inv .2 ∙ pre .0 .long }, omega (arith, pre .1), pre .2)
+    (record { instances = pre .0 .instances; search = pre .0 .search; long = loop' .inv .2 ∙ pre .0 .long }, omega (arith, pre .1), pre .2, pre .3, pre .4)
 
-add-t18 : tie.Need-add-t18 Inv-loop μ-loop
-add-t18 c =
+add-t20 : tie.Need-add-t20 Inv-loop μ-loop
+add-t20 c =
     let pre = c .before .before .before .before .before .before .before .before .before .before .before .before .pre in
     omega (arith, pre .1)
 
-mul-t19 : tie.Need-mul-t19 Inv-loop μ-loop
-mul-t19 c =
+mul-t21 : tie.Need-mul-t21 Inv-loop μ-loop
+mul-t21 c =
     let pre = c .before .before .before .before .before .before .before .before .before .before .before .before .pre in
     omega (arith, pre .1)
 
-shared-slice-read-t21 : tie.Need-shared-slice-read-t21 Inv-loop μ-loop
-shared-slice-read-t21 c =
+shared-slice-read-t23 : tie.Need-shared-slice-read-t23 Inv-loop μ-loop
+shared-slice-read-t23 c =
     let pre = c .before .before .before .before .before .before .before .before .before .before .before .before .before .pre in
     omega (arith, pre .1)
 
@@ -79,7 +79,7 @@ returns c =
       out .given ∙ loop' .inv .2,
       λ y g. entries-stop (now (args .start)) y (args .plan .instances) (args .plan .arcs) (args .plan .first) g
           (now (args .text)) (args .plan .slash) (now (args .entries)) (args .first) (args .count) (args .whom) (now (args .celltype)) (now (args .out))
-          (loop' .k) (loop' .out) (apply-entry .last .1 .1 .1 .1 .1 .1 .1 .1 .0) (apply-entry .result) (omega arith) (loop' .inv .1 y g)
+          (loop' .k) (loop' .out) (apply-entry .last .1 .1 .1 .1 .1 .1 .1 .1 .1 .1 .0) (apply-entry .result) (omega arith) (loop' .inv .1 y g)
           (apply-entry .ensures .0) (if1 .taken) y g,
     )
 
@@ -99,7 +99,7 @@ loop-again c =
       omega arith,
       (λ y g. rw add-one (entries-more (now (args .start)) y (args .plan .instances) (args .plan .arcs) (args .plan .first) g
           (now (args .text)) (args .plan .slash) (now (args .entries)) (args .first) (args .count) (args .whom) (now (args .celltype)) (now (args .out))
-          (loop' .k) (loop' .out) (apply-entry .last .1 .1 .1 .1 .1 .1 .1 .1 .0) (omega arith) (loop' .inv .1 y g)
+          (loop' .k) (loop' .out) (apply-entry .last .1 .1 .1 .1 .1 .1 .1 .1 .1 .1 .0) (omega arith) (loop' .inv .1 y g)
           (sym (apply-entry .ensures .0) ∙ if1 .left) (apply-entry .ensures .1))),
       out .given ∙ loop' .inv .2,
     )
@@ -130,9 +130,9 @@ apply-entries-spec =
     add-row
     mul-row
     apply-entry-requires
-    add-t18
-    mul-t19
-    shared-slice-read-t21
+    add-t20
+    mul-t21
+    shared-slice-read-t23
     same-length
     returns
     add-k

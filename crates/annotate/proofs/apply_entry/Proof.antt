@@ -27,18 +27,20 @@ expand-requires c κs = search needs
 enum-known-whom : tie.Need-enum-known-whom
 enum-known-whom c = search needs
 
-apply-in-requires : tie.Need-apply-in-requires
-apply-in-requires c κs =
+apply-at-requires : tie.Need-apply-at-requires
+apply-at-requires c κs =
     let whom = c .before .before .whom in
     let pre = c .before .before .before .before .before .before .before .before .before .before .before .before .before .pre in
     let whole = rw (whom .given .1) at (pre .2) in
-    (record { arcs = pre .0 .search .good; long = pre .0 .long; there = whole }, pre .0 .search)
+    (record { arcs = pre .0 .search .good; long = pre .0 .long; there = whole }, pre .0 .search, pre .4)
 
 enum-told : tie.Need-enum-told
 enum-told c = search needs
 
-apply-every-requires : tie.Need-apply-every-requires
-apply-every-requires c κs = search needs
+apply-typed-requires : tie.Need-apply-typed-requires
+apply-typed-requires c κs =
+    let pre = c .before .before .before .before .before .before .before .before .before .before .before .before .pre in
+    (pre .0, pre .3, pre .4)
 
 enum-known-whom-2 : tie.Need-enum-known-whom-2
 enum-known-whom-2 c = search needs
@@ -52,8 +54,8 @@ returns c =
     let whom = c .before .before .before .before .before .whom in
     let head-at = c .before .before .before .before .before .before .before .before .before .before .head-at in
     let expand = c .before .before .before .before .before .before .before .expand in
-    let apply-in = c .before .before .apply-in in
-    rw (whom .given .1, ← head-at .ensures, ← expand .ensures) (apply-in .ensures)
+    let apply-at = c .before .before .apply-at in
+    rw (whom .given .1, ← head-at .ensures, ← expand .ensures) (apply-at .ensures)
 
 same-length-2 : tie.Need-same-length-2
 same-length-2 c = search needs
@@ -64,8 +66,8 @@ returns-2 c =
     let enum-told = c .before .before .before .before .enum-told in
     let head-at = c .before .before .before .before .before .before .before .before .before .head-at in
     let expand = c .before .before .before .before .before .before .expand in
-    let apply-every = c .before .before .apply-every in
-    rw (enum-told .given .1, ← head-at .ensures, ← expand .ensures) (apply-every .ensures)
+    let apply-typed = c .before .before .apply-typed in
+    rw (enum-told .given .1, ← head-at .ensures, ← expand .ensures) (apply-typed .ensures)
 
 returns-3 : tie.Need-returns-3
 unfolding refusalFor appliedFor
@@ -84,9 +86,9 @@ apply-entry-spec =
     shared-slice-read-expand
     expand-requires
     enum-known-whom
-    apply-in-requires
+    apply-at-requires
     enum-told
-    apply-every-requires
+    apply-typed-requires
     enum-known-whom-2
     same-length
     returns
