@@ -23,8 +23,8 @@ use Rattle.annotate.specs.declared.Annotated.{Annotated}
 use Rattle.annotate.specs.declared.Annotated.the-variants as annotated
 use Rattle.annotate.specs.Meaning.{Course, AnnotateIs, cellsOut, entriesOut, outOf}
 use Rattle.annotate.specs.Meaning as meaning
-use Rattle.patch.specs.declared.Patched.{Patched}
-use Rattle.patch.specs.declared.Patched.the-variants as patched
+use Rattle.swap.specs.declared.Patched.{Patched}
+use Rattle.swap.specs.declared.Patched.the-variants as patched
 use Rattle.patch.specs.Meaning as patching
 
 -- 0 and the counts, the divider (1 for /) and the time scale; or the refusal's number and its place, and nothing else

@@ -13,7 +13,6 @@ ghost use Rattle.patch.specs.Meaning as patching;
 ghost use Rattle.boomcrutch.specs.Exports.{annotatedNumbers, PatchLeft, fileNumbers, readNumbers, cellBy, sheetNumbers};
 use annotate::Annotated;
 use annotate::annotate;
-use patch::Patched;
 use patch::patch;
 use tokens::count_tokens;
 use reader::Answer;
@@ -22,6 +21,7 @@ use reader::read_file;
 use reader::read_cell;
 use sheetform::SheetCheck;
 use sheetform::check_sheet;
+use swap::Patched;
 
 // The answer of a reading: number 0 and what was read, with from, to of each of the header's texts; or a refusal's number and place.
 #[repr(C)]

@@ -55,8 +55,9 @@ use Rattle.annotate.specs.declared.Annotated.the-variants as annotated
 use Rattle.annotate.specs.Meaning as annotating
 use Rattle.patching.specs.Where.{Where, at}
 use Rattle.arcrun.specs.CellRuns.{cells-length}
-use Rattle.patch.specs.declared.Patched.the-variants as patched
-use Rattle.patch.specs.Meaning.{said, firstCell, Course, course, answerOf, saysOf, sheetOf, currentOf}
+use Rattle.swap.specs.declared.Patched.the-variants as patched
+use Rattle.swap.specs.Swapped.{saysOf, sheetOf}
+use Rattle.patch.specs.Meaning.{said, firstCell, Course, course, answerOf, currentOf}
 use Rattle.patch.specs.Demand.{patch-is-annotating, accepted}
 
 -- 1. Where a word stands

@@ -7,7 +7,7 @@ use Rattle.grammar.specs.Machine.{Res}
 use Rattle.grammar.specs.Reading.{At}
 use Rattle.reader.specs.declared.FileRead.{FileRead}
 use Rattle.reader.specs.Files.{FileIs}
-use Rattle.patch.specs.declared.Patched.{Patched}
+use Rattle.swap.specs.declared.Patched.{Patched}
 use Rattle.patch.specs.Meaning.{Course, PatchIs}
 
 -- ONE OUTCOME of a reading, of a file or of one cell: the answer, the divider, the scale, the header's texts and both tables

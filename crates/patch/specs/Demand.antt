@@ -57,7 +57,8 @@ use Rattle.annotate.specs.CellList.{each-take, each-drop}
 use Rattle.patching.specs.Where.{Where, at}
 use Rattle.arcrun.specs.RunLaws.{gives-fits}
 use Rattle.arcrun.specs.CellRuns.{cells-length}
-use Rattle.patch.specs.Meaning.{said, firstCell, Course, judged, course, saysOf, answerOf, sheetOf, currentOf}
+use Rattle.swap.specs.Swapped.{saysOf, sheetOf}
+use Rattle.patch.specs.Meaning.{said, firstCell, Course, judged, course, answerOf, currentOf}
 
 -- 1. Bytes of a sheet with other values
 

@@ -1,11 +1,5 @@
 pub mod Meaning
 pub mod Counted
-pub mod Swap
-pub mod Loops
-pub mod Turns
-pub mod OwnLaws
-pub mod ArcLaws
-pub mod SwapLaws
+pub mod Incoming
 pub mod PatchLaws
 pub mod Demand
-pub mod Seated

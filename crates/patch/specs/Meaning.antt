@@ -1,6 +1,6 @@
 -- What patching means (document 01, 'Patching' and 'Refusal numbers and their order'): the answer, the current sheet and all four tables.
 -- Assumes nothing.
-use Prim.Native.Nat.{ℕ, zero, suc}
+use Prim.Native.Nat.{ℕ}
 use mathlib.Core.Path.{_≡_}
 use mathlib.Core.Bool.{Bool, true, false}
 use mathlib.Core.List.{List, [], _∷_}
@@ -15,15 +15,16 @@ use Rattle.sheetform.specs.Form.{checkOf}
 use Rattle.sheetform.specs.declared.SheetCheck.{SheetCheck}
 use Rattle.sheetform.specs.declared.SheetCheck.the-variants as check
 use Rattle.sheet.specs.Same.{sameRecords}
-use Rattle.history.specs.Events.{Answer, sheet, refused}
+use Rattle.history.specs.Events.{Answer}
 use Rattle.history.specs.Sheet.{Slot, Cell}
 use Rattle.history.specs.Sheet as history
-use Rattle.slots.specs.Slots.{recordsOf, valuesOf, spelled, sheetAt}
+use Rattle.slots.specs.Slots.{recordsOf, valuesOf, sheetAt}
 use Rattle.applying.specs.Says.{cellOf, cellsOf}
 use Rattle.annotate.specs.Cells.{noCell}
 use Rattle.patching.specs.Where.{Where, at}
-use Rattle.patch.specs.declared.Patched.{Patched}
-use Rattle.patch.specs.declared.Patched.the-variants as patched
+use Rattle.swap.specs.declared.Patched.{Patched}
+use Rattle.swap.specs.declared.Patched.the-variants as patched
+use Rattle.swap.specs.Swapped.{saysOf, sheetOf}
 
 -- the cells of a text that was read, with the words of that text
 unfoldable pub said : Bool → List ℕ → At → List (Cell Where)
@@ -69,11 +70,7 @@ module _ (start file : List ℕ) (number : ℕ) (incoming current : List ℕ) wh
   unfoldable pub course : (cr ir cr2 ir2 : ℕ) → Course
   course cr ir cr2 ir2 = bySheet cr2 ir2 (readFile cr ir file) (checkOf start)
 
--- the answer, by the paper's numbers; '10, 11, 17, 18: the file'
-abbrev pub saysOf : Answer Slot Where → Patched
-saysOf (sheet v) = patched.Done
-saysOf (refused n w) = patched.Refused n (w .place) (w .incoming)
-
+-- '10, 11, 17, 18: the file'
 unfoldable pub answerOf : Course → Patched
 answerOf (unfit x) = patched.Refused x 0 false
 answerOf (unread x q) = patched.Refused x q false
@@ -81,11 +78,7 @@ answerOf (nonumber st) = patched.Refused 17 0 false
 answerOf (unreadCell st x q) = patched.Refused x q true
 answerOf (judged n m f st st2 a) = saysOf a
 
--- 'A refused patch keeps the current sheet.'
-abbrev pub sheetOf : (start current : List ℕ) (n m f : ℕ) → Answer Slot Where → List ℕ
-sheetOf start current n m f (sheet v) = spelled (sheetAt start n m f) v
-sheetOf start current n m f (refused x w) = current
-
+-- and the current sheet
 unfoldable pub currentOf : (start current : List ℕ) → Course → List ℕ
 currentOf start current (unfit x) = current
 currentOf start current (unread x q) = current

@@ -36,14 +36,16 @@ use Rattle.annotate.specs.Entries.{EntriesAre}
 use Rattle.annotate.specs.Cells.{entriesBefore, CellsAre}
 use Rattle.annotate.specs.TextLaws.{Tables, tables-sound, read-tables}
 use Rattle.patching.specs.Where.{at}
-use Rattle.patch.specs.declared.Swap.{Swap}
+use Rattle.swaparcs.specs.declared.Swap.{Swap}
+use Rattle.swaparcs.specs.Swap.{Given, olds, comer}
+use Rattle.swaparcs.specs.Loops.{SwapReady}
+use Rattle.swap.specs.declared.Patched.{Patched}
+use Rattle.swap.specs.declared.Patched.the-variants as patched
+use Rattle.swap.specs.Swapped.{SwapRun}
 use Rattle.patch.specs.declared.Counted.{Counted}
-use Rattle.patch.specs.declared.Patched.{Patched}
-use Rattle.patch.specs.declared.Patched.the-variants as patched
 use Rattle.patch.specs.Meaning.{said, firstCell, byCell, byFile, course, answerOf, currentOf, fileTable, cellTable}
 use Rattle.patch.specs.Counted.{countOf, cellsRead, CountedIs}
-use Rattle.patch.specs.Swap.{Given, olds, comer}
-use Rattle.patch.specs.Loops.{SwapReady, SwapRun, ByIncoming, CellPatched}
+use Rattle.patch.specs.Incoming.{ByIncoming, CellPatched}
 
 -- 1. The incoming text, read as one cell
 

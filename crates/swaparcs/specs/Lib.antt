@@ -1,0 +1,4 @@
+pub mod Swap
+pub mod Loops
+pub mod Turns
+pub mod ArcLaws
