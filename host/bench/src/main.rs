@@ -9,7 +9,7 @@ use std::hint::black_box;
 use command::blank::blank;
 use command::rooms::{Rooms, Wanted};
 use proved::{Functions, Swap};
-use text::{macro_cell, netlist, stars, Order};
+use text::{devices, macro_cell, netlist, stars, Order};
 
 use measure::{best, loop_time, print_table, with_commas, Row};
 
@@ -122,12 +122,16 @@ impl Board {
 
 fn annotate_rows() -> Vec<Row> {
     let mut rows = Vec::new();
-    for (what, order) in
-        [("netlist order", Order::Netlist), ("sheet order", Order::Sheet), ("reverse order", Order::Reverse)]
-    {
+    for (what, order) in [
+        ("netlist order", Order::Netlist),
+        ("sheet order", Order::Sheet),
+        ("reverse order", Order::Reverse),
+        ("random order", Order::Random),
+    ] {
         rows.extend(WIRES.map(|wires| Board::new(netlist(wires, order)).annotate_row(what)));
     }
     rows.extend(WIRES.map(|wires| Board::new(stars(wires)).annotate_row("many `*` cells")));
+    rows.extend(WIRES.map(|wires| Board::new(devices(wires)).annotate_row("many DEVICE")));
     rows
 }
 

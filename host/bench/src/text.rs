@@ -55,6 +55,8 @@ pub enum Order {
     Sheet,
     /// The other way round.
     Reverse,
+    /// In no order, but the same in every run.
+    Random,
 }
 
 /// The name of a gate's instance.
@@ -68,19 +70,31 @@ pub fn netlist(wires: usize, order: Order) -> Vec<u8> {
     let gates = wires / 2;
     let mut cells: Vec<(String, String)> = (0..gates).map(|n| (gate(n), gate_cell(n, "NAND2"))).collect();
     let mut lines: Vec<(String, String)> = (0..wires).map(|n| wire(n, gates)).collect();
-    if order != Order::Netlist {
-        cells.sort();
-        lines.sort();
-    }
-    if order == Order::Reverse {
-        cells.reverse();
-        lines.reverse();
-    }
+    put_in_order(&mut cells, order);
+    put_in_order(&mut lines, order);
     let lines: String = lines.into_iter().map(|line| line.1).collect();
     let top = format!("  (CELL (CELLTYPE \"board\") (INSTANCE)\n    (DELAY (ABSOLUTE\n{lines}    ))\n  )\n");
     let (before, after) = if order == Order::Sheet { ("", top.as_str()) } else { (top.as_str(), "") };
     let cells: String = cells.into_iter().map(|cell| cell.1).collect();
     [HEAD, before, &cells, &macro_cell(0), after, ")\n"].concat().into_bytes()
+}
+
+fn put_in_order(items: &mut [(String, String)], order: Order) {
+    match order {
+        Order::Netlist => {}
+        Order::Sheet => items.sort(),
+        Order::Reverse => items.sort_by(|a, b| b.cmp(a)),
+        Order::Random => shuffle(items),
+    }
+}
+
+/// Fisher and Yates, by a small generator with a fixed seed.
+fn shuffle<T>(items: &mut [T]) {
+    let mut state = 1u64;
+    for last in (1..items.len()).rev() {
+        state = state.wrapping_mul(6_364_136_223_846_793_005).wrapping_add(1_442_695_040_888_963_407);
+        items.swap(last, (state >> 33) as usize % (last + 1));
+    }
 }
 
 fn wire(n: usize, gates: usize) -> (String, String) {
@@ -122,4 +136,14 @@ pub fn stars(paths_wanted: usize) -> Vec<u8> {
     let star = |n: usize| gate_cell(n, &format!("T{n}")).replace(&format!("INSTANCE {}", gate(n)), "INSTANCE *");
     let stars: String = (0..types).map(star).collect();
     [HEAD, &named, &stars, ")\n"].concat().into_bytes()
+}
+
+/// A file with so many IOPATH entries, two to a gate, and a DEVICE for the output of each gate.
+pub fn devices(paths_wanted: usize) -> Vec<u8> {
+    let device = |n: usize| {
+        let line = format!("      (DEVICE ZN (0.{:03}))\n    ))\n", n % 991);
+        gate_cell(n, "NAND2").replacen("    ))\n", &line, 1)
+    };
+    let gates: String = (0..paths_wanted / 2).map(device).collect();
+    [HEAD, &gates, ")\n"].concat().into_bytes()
 }
