@@ -185,4 +185,5 @@ fn print_shares(board: &Board) {
     println!("| patch | {:.2} | {:.2} |", 1e3 * patch, 1e3 * beyond(patch));
     let share = beyond(patch) / beyond(annotate).max(1e-9);
     println!("| patch, as a share of annotating | {:.2} | {share:.2} |", patch / annotate);
+    println!("| patch, as a share of all of annotating | | {:.3} |", beyond(patch) / annotate);
 }
