@@ -7,3 +7,4 @@ pub mod EntryLaws
 pub mod CellLaws
 pub mod TextLaws
 pub mod Statements
+pub mod Devices

@@ -10,6 +10,7 @@ ghost use Rattle.byend.specs.Ends.{EndsReady};
 ghost use Rattle.applying.specs.Ready.{Ready};
 ghost use Rattle.annotate.specs.Whom.{whomOf, InSheet};
 ghost use Rattle.annotate.specs.Entries.{refusalFor, appliedFor, EntriesRun};
+ghost use Rattle.annotate.specs.Devices.{rowsThere, anyDevice};
 ghost use Rattle.annotate.specs.Cells.{entriesBefore, isRefusal, CellRun, CellsRun, TextRun};
 ghost use Rattle.annotate.specs.Meaning.{course, cellCount, AnnotateIs};
 use apply::Plan;
@@ -312,20 +313,31 @@ fn copy_sheet(start: &[u8], out: &mut [u8])
     }
 }
 
-// Whether one of the first `count` rows is of a DEVICE: the index for it is made only then.
-fn any_device(entries: &[u64], count: usize) -> bool {
+// How many of so many rows of entries are in the table.
+fn rows_there(entries: &[u64], count: usize) -> usize
+    ensures { λ r. ⌜ r ≡ rowsThere (now (entries .entry)) count ⌝ }
+{
     let room = entries.len() / ENTRY_WORDS;
+    if count < room {
+        return count;
+    }
+    room
+}
+
+// Whether one of the first `count` rows is of a DEVICE: the index for it is made only then.
+fn any_device(entries: &[u64], count: usize) -> bool
+    ensures { λ r. ⌜ r ≡ anyDevice (now (entries .entry)) (rowsThere (now (entries .entry)) count) ⌝ }
+{
+    let rows = rows_there(entries, count);
+    let mut some = false;
     let mut k = 0;
-    while k < room {
-        if k == count {
-            return false;
-        }
+    while k < rows {
         if entries[ENTRY_WORDS * k] == DEVICE {
-            return true;
+            some = true;
         }
         k += 1;
     }
-    false
+    some
 }
 
 // Applies a text that was read, with so many cells and entries, to a starting sheet that was checked. After a refusal the output sheet equals the starting sheet.

@@ -1,47 +1,78 @@
--- `annotate::any_device` meets its contract. Invariant: the rows so far are there.
+-- `annotate::any_device` meets its contract. Invariant: whether one of the first k rows is of a DEVICE.
 -- Assumes nothing.
-use lib.ListN.{length}
-use borrow.Author.Needs.{needs}
+use Prim.Native.Nat.{_-_, _≤_}
+use mathlib.Core.Path.{_≡_, refl}
+use mathlib.Core.Logic.{⊎-elim}
 use native.Mathlib.Omega.{arith}
-use Prim.Native.Nat.{_-_, _/_, _≤_}
+use denote.Ref.{now}
+use borrow.Author.Needs.{needs}
+use Rattle.annotate.specs.Devices.{anyDevice, rows-in, row-with, row-without}
 use Rattle.annotate.proofs.any_device.Statement.{statement}
 use Rattle.annotate.proofs.any_device.Tie as tie
 
 abbrev Inv-loop : tie.InvT-loop
-Inv-loop entries count room k₀ k = k ≤ length entries / 28
+Inv-loop entries count rows some₀ k₀ some k = (k ≤ rows) × (some ≡ anyDevice entries k)
 
 abbrev μ-loop : tie.MeasureT-loop
-μ-loop entries count room k₀ k = length entries / 28 - k
+μ-loop entries count rows some₀ k₀ some k = rows - k
+
+rows-there-requires : tie.Need-rows-there-requires Inv-loop μ-loop
+rows-there-requires c κs = search needs
 
 loop-holds : tie.Need-loop-holds Inv-loop μ-loop
-loop-holds c = omega arith
+unfolding anyDevice
+loop-holds c = (omega arith, refl)
 
-returns : tie.Need-returns Inv-loop μ-loop
-returns c = search needs
+mul-if1 : tie.Need-mul-if1 Inv-loop μ-loop
+mul-if1 c =
+    let args = c .before .before .before .before .args in
+    let rows-there = c .before .before .rows-there in
+    let loop-test = c .loop-test in
+    let n = rows-in (now (args .entries)) (args .count) (rows-there .result) (rows-there .ensures) in
+    omega (arith, n, loop-test .taken)
 
-mul-if2 : tie.Need-mul-if2 Inv-loop μ-loop
-mul-if2 c = omega arith
+mul-if1-2 : tie.Need-mul-if1-2 Inv-loop μ-loop
+mul-if1-2 c =
+    let args = c .before .before .before .before .args in
+    let rows-there = c .before .before .rows-there in
+    let loop-test = c .loop-test in
+    let n = rows-in (now (args .entries)) (args .count) (rows-there .result) (rows-there .ensures) in
+    omega (arith, n, loop-test .taken)
 
-mul-if2-2 : tie.Need-mul-if2-2 Inv-loop μ-loop
-mul-if2-2 c = omega arith
-
-shared-slice-read-if2 : tie.Need-shared-slice-read-if2 Inv-loop μ-loop
-shared-slice-read-if2 c = omega arith
-
-returns-2 : tie.Need-returns-2 Inv-loop μ-loop
-returns-2 c = search needs
+shared-slice-read-if1 : tie.Need-shared-slice-read-if1 Inv-loop μ-loop
+shared-slice-read-if1 c =
+    let args = c .before .before .before .before .before .args in
+    let rows-there = c .before .before .before .rows-there in
+    let loop-test = c .before .loop-test in
+    let n = rows-in (now (args .entries)) (args .count) (rows-there .result) (rows-there .ensures) in
+    omega (arith, n, loop-test .taken)
 
 add-k : tie.Need-add-k Inv-loop μ-loop
-add-k c = omega arith
+add-k c =
+    let loop-test = c .before .before .loop-test in
+    omega (arith, loop-test .taken)
 
 loop-less : tie.Need-loop-less Inv-loop μ-loop
-loop-less c = omega arith
+loop-less c =
+    let loop-test = c .before .before .loop-test in
+    omega (arith, loop-test .taken)
 
 loop-again : tie.Need-loop-again Inv-loop μ-loop
-loop-again c = omega arith
+loop-again c =
+    let loop-test = c .before .before .loop-test in
+    let args = c .before .before .before .before .before .before .args in
+    let loop' = c .before .before .before .loop in
+    let if1 = c .if1 in
+    (omega (arith, loop-test .taken),
+    ⊎-elim (λ w. row-with (now (args .entries)) (loop' .k) _ (loop' .some) (loop' .inv .1) (w .0 .taken) (w .1)) (λ w. row-without (now (args .entries)) (loop' .k) _ (loop' .some) (loop' .inv .1) (w .0 .left) (w .1)) (if1 .came))
 
-returns-3 : tie.Need-returns-3 Inv-loop μ-loop
-returns-3 c = search needs
+returns : tie.Need-returns Inv-loop μ-loop
+returns c =
+    let loop' = c .before .loop in
+    let rows-there = c .before .before .rows-there in
+    let loop-test = c .loop-test in
+    let e : loop' .k ≡ rows-there .result = omega (arith, loop-test .left, loop' .inv .0) in
+    rw (← rows-there .ensures, ← e) (loop' .inv .1)
 
 pub any-device-spec : {M : Type 1} → statement M
 any-device-spec =
@@ -49,13 +80,12 @@ any-device-spec =
     (tie.spec
     Inv-loop
     μ-loop
+    rows-there-requires
     loop-holds
-    returns
-    mul-if2
-    mul-if2-2
-    shared-slice-read-if2
-    returns-2
+    mul-if1
+    mul-if1-2
+    shared-slice-read-if1
     add-k
     loop-less
     loop-again
-    returns-3)
+    returns)
