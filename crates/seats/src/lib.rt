@@ -154,7 +154,16 @@ fn is_near<'a>(
     }
     let mut i = 0;
     while i < count {
-        if arcrun::may_touch(start, file, incoming, side, slash, cell.pathfrom, cell.pathto, arcs[i]) {
+        if arcrun::may_touch(
+            start,
+            file,
+            incoming,
+            side,
+            slash,
+            cell.pathfrom,
+            cell.pathto,
+            arcs[i],
+        ) {
             return true;
         }
         i += 1;

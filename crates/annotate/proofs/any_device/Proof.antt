@@ -62,9 +62,10 @@ loop-again c =
     let loop-test = c .before .before .loop-test in
     let args = c .before .before .before .before .before .before .args in
     let loop' = c .before .before .before .loop in
-    let if1 = c .if1 in
-    (omega (arith, loop-test .taken),
-    ⊎-elim (λ w. row-with (now (args .entries)) (loop' .k) _ (loop' .some) (loop' .inv .1) (w .0 .taken) (w .1)) (λ w. row-without (now (args .entries)) (loop' .k) _ (loop' .some) (loop' .inv .1) (w .0 .left) (w .1)) (if1 .came))
+    let if1 = c .if1 in (
+      omega (arith, loop-test .taken),
+      ⊎-elim (λ w. row-with (now (args .entries)) (loop' .k) _ (loop' .some) (loop' .inv .1) (w .0 .taken) (w .1)) (λ w. row-without (now (args .entries)) (loop' .k) _ (loop' .some) (loop' .inv .1) (w .0 .left) (w .1)) (if1 .came),
+    )
 
 returns : tie.Need-returns Inv-loop μ-loop
 returns c =
