@@ -50,7 +50,72 @@ fn answer_of(least: Least) -> Patched
     }
 }
 
-// Judges the touched slots, and writes them where there is no fault.
+// Judges the touched slots arc by arc, and writes them where there is no fault.
+fn swap_one_by_one<'a>(
+    start: &[u8],
+    file: &'a [u8],
+    incoming: &'a [u8],
+    plan: Plan,
+    swap: Swap,
+    places: &[u32; 4096],
+    cells: &[u64],
+    entries: &[u64],
+    leaver: Whom,
+    leavertype: &[u8],
+    cells2: &[u64],
+    entries2: &[u64],
+    comer: Whom,
+    comertype: &[u8],
+    own: Least,
+    current: &mut [u8],
+) -> Patched
+    requires { ⌜ (SwapFits (now start) plan swap (now places) (now cells) (now entries) leaver (now cells2) (now entries2) comer)
+        × (length (now current) ≡ length (now start)) ⌝ }
+    ensures { λ r. ⌜ TouchedSwapped (now (start .entry)) (plan .instances) (plan .arcs) (plan .first) (now (file .entry)) (now (incoming .entry)) (plan .slash)
+        (now (cells .entry)) (now (entries .entry)) (now (cells2 .entry)) (now (entries2 .entry)) swap leaver (now (leavertype .entry)) comer
+        (now (comertype .entry)) own (now (current .entry)) (now (current .exit)) r ⌝ }
+{
+    let least = swaparcs::least_of_arcs(
+        start,
+        file,
+        incoming,
+        plan,
+        swap,
+        places,
+        cells,
+        entries,
+        leaver,
+        leavertype,
+        cells2,
+        entries2,
+        comer,
+        comertype,
+        own,
+    );
+    if swaparcs::is_fault(least) {
+        return answer_of(least);
+    }
+    swaparcs::write_arcs(
+        start,
+        file,
+        incoming,
+        plan,
+        swap,
+        places,
+        cells,
+        entries,
+        leaver,
+        leavertype,
+        cells2,
+        entries2,
+        comer,
+        comertype,
+        current,
+    );
+    Patched::Done
+}
+
+// Judges the touched slots, all together where that can be done, and writes them where there is no fault.
 fn swap_touched<'a>(
     start: &[u8],
     file: &'a [u8],
@@ -96,7 +161,7 @@ fn swap_touched<'a>(
             return Patched::Done;
         }
     }
-    let least = swaparcs::least_of_arcs(
+    swap_one_by_one(
         start,
         file,
         incoming,
@@ -112,28 +177,8 @@ fn swap_touched<'a>(
         comer,
         comertype,
         own,
-    );
-    if swaparcs::is_fault(least) {
-        return answer_of(least);
-    }
-    swaparcs::write_arcs(
-        start,
-        file,
-        incoming,
-        plan,
-        swap,
-        places,
-        cells,
-        entries,
-        leaver,
-        leavertype,
-        cells2,
-        entries2,
-        comer,
-        comertype,
         current,
-    );
-    Patched::Done
+    )
 }
 
 // Swaps one cell of a file that was read for the incoming one.
