@@ -9,12 +9,15 @@ use std::hint::black_box;
 use command::blank::blank;
 use command::rooms::{Rooms, Wanted};
 use proved::{Functions, Swap};
-use text::{devices, macro_cell, netlist, stars, Order};
+use text::{devices, macro_cell, netlist, stars, top_cell, Order};
 
 use measure::{best, loop_time, print_table, with_commas, Row};
 
 /// How many INTERCONNECT and how many IOPATH entries the annotated files have.
 const WIRES: [usize; 3] = [4_000, 16_000, 33_000];
+
+/// How many INTERCONNECT entries the top cell has that is issued again: patching a large cell costs with the square.
+const TOP_WIRES: [usize; 3] = [500, 1_000, 2_000];
 
 fn main() {
     let texts: Vec<Vec<u8>> = [1_000_000, 4_000_000, 10_000_000].map(text::board).to_vec();
@@ -32,7 +35,17 @@ fn main() {
     if proved::has(Functions::Patch) {
         print_table(
             "Patching one cell of ten entries",
-            &WIRES.map(|wires| patch_row(&Board::new(netlist(wires, Order::Netlist)))),
+            &WIRES.map(|wires| {
+                let board = Board::new(netlist(wires, Order::Netlist));
+                patch_row("patch", &board, &Reissue::of_macro(&board, 5))
+            }),
+        );
+        print_table(
+            "Patching the top cell, which has half of the entries",
+            &TOP_WIRES.map(|wires| {
+                let board = Board::new(netlist(wires, Order::Netlist));
+                patch_row("patch the top cell", &board, &Reissue { number: 1, incoming: top_cell(wires), runs: 2 })
+            }),
         );
     }
     if [Functions::Sheet, Functions::Annotate, Functions::Patch].into_iter().all(proved::has) {
@@ -135,30 +148,42 @@ fn annotate_rows() -> Vec<Row> {
     rows
 }
 
-/// How long the patch of the ten-entry cell takes by the proved functions; the patched sheet is in `current`.
-fn patch_time(board: &Board, current: &mut [u8]) -> f64 {
-    let incoming = macro_cell(7);
-    let mut rooms = Rooms::new(&board.text, Wanted::default());
-    let mut incoming_rooms = Rooms::new(incoming.as_bytes(), Wanted::default());
-    let number = board.cells as u64;
-    let swap = Swap { start: &board.start, file: &board.text, number, incoming: incoming.as_bytes() };
-    let answer = proved::patch(swap, current, &mut rooms.tables(), &mut incoming_rooms.tables());
-    assert_eq!(answer.number, 0, "refused {} at {}", answer.number, answer.place);
-    best(5, || proved::patch(black_box(swap), current, &mut rooms.tables(), &mut incoming_rooms.tables()))
+/// A cell that is issued again, its number in the file, and how many runs are measured.
+struct Reissue {
+    number: u64,
+    incoming: String,
+    runs: usize,
 }
 
-fn patch_row(board: &Board) -> Row {
+impl Reissue {
+    /// The ten-entry cell, the last of its file.
+    fn of_macro(board: &Board, runs: usize) -> Reissue {
+        Reissue { number: board.cells as u64, incoming: macro_cell(7), runs }
+    }
+}
+
+/// How long the patch takes by the proved functions; the patched sheet is in `current`.
+fn patch_time(board: &Board, reissue: &Reissue, current: &mut [u8]) -> f64 {
+    let incoming = reissue.incoming.as_bytes();
+    let mut rooms = Rooms::new(&board.text, Wanted::default());
+    let mut incoming_rooms = Rooms::new(incoming, Wanted::default());
+    let swap = Swap { start: &board.start, file: &board.text, number: reissue.number, incoming };
+    let answer = proved::patch(swap, current, &mut rooms.tables(), &mut incoming_rooms.tables());
+    assert_eq!(answer.number, 0, "refused {} at {}", answer.number, answer.place);
+    best(reissue.runs, || proved::patch(black_box(swap), current, &mut rooms.tables(), &mut incoming_rooms.tables()))
+}
+
+fn patch_row(what: &str, board: &Board, reissue: &Reissue) -> Row {
     let (mut current, mut by_second) = (board.start.clone(), board.start.clone());
-    let proved = patch_time(board, &mut current);
-    let incoming = macro_cell(7);
+    let proved = patch_time(board, reissue, &mut current);
+    let incoming = reissue.incoming.as_bytes();
     let rooms = second::Rooms { cells: usize::MAX, entries: usize::MAX };
-    let number = board.cells as u64;
     let second =
-        best(2, || second::patch(&board.start, &board.text, number, incoming.as_bytes(), &mut by_second, rooms, rooms));
+        best(2, || second::patch(&board.start, &board.text, reissue.number, incoming, &mut by_second, rooms, rooms));
     assert!(current == by_second, "the two programs give different sheets");
     Row {
         what: format!(
-            "patch, {} entries, sheet of {:.1} MB",
+            "{what}, {} entries, sheet of {:.1} MB",
             with_commas(board.entries),
             board.start.len() as f64 / 1e6
         ),
@@ -175,7 +200,7 @@ fn print_shares(board: &Board) {
     let read = best(5, || proved::read_file(black_box(&board.text), &mut board.rooms.tables()));
     let check = best(5, || proved::check_sheet(black_box(&board.start)));
     let (annotate, mut current) = board.annotate();
-    let patch = patch_time(&board, &mut current);
+    let patch = patch_time(&board, &Reissue::of_macro(&board, 5), &mut current);
     let beyond = |time: f64| (time - read - check).max(0.0);
     println!("\n### Shares, {} entries\n", with_commas(board.entries));
     println!("| what | ms | beyond reading and checking, ms |");
