@@ -125,7 +125,7 @@ fn device_write(
 }
 
 // The arc that an entry other than DEVICE means in the instance at a place.
-fn arc_of(
+pub fn arc_of(
     start: &[u8],
     text: &[u8],
     plan: Plan,

@@ -109,12 +109,12 @@ module _ (b text : List ℕ) (slash : Bool) (n m f : ℕ) (side : Bool) where
       rw (cell-events cell is) (omega arith)
 
   -- a keyword changes nothing
-  keyword : (c : Cell Where) (j : ℕ) (touched : Slot → Bool) (now : Values)
+  pub keyword : (c : Cell Where) (j : ℕ) (touched : Slot → Bool) (now : Values)
       → groupLeft (arcSlots j) touched now (cellEvent (recordsAt b n m f) c ∷ []) ≡ now
   unfolding groupLeft cellEvent
   keyword c j touched now = fun-ext (λ t. quiet-stepped (arcSlots j) touched now (cellEvent (recordsAt b n m f) c) t refl)
 
-  keyword-calm : (c : Cell Where) (j : ℕ) → Calm j (cellEvent (recordsAt b n m f) c)
+  pub keyword-calm : (c : Cell Where) (j : ℕ) → Calm j (cellEvent (recordsAt b n m f) c)
   unfolding cellEvent
   keyword-calm c j = (λ t p. refl, λ t. tt)
 
@@ -250,7 +250,7 @@ module _ (b text : List ℕ) (slash : Bool) (n m f : ℕ) (cells : List ℕ) (fr
       ∙ file-append (recordsAt b n m f) (drop from (take k (cellsOf (at false) text slash cs is))) (cellNo (at false) text slash cs is k ∷ [])
       ∙ ap (λ (w : List (Event Slot Where)). past cs is k ++ w) (append-nil (events (recordsAt b n m f) (cellNo (at false) text slash cs is k)))
 
-  past-at : (cs : List read.Cell) (is : List Item) (k : ℕ) → from ≤ k → k < to → k < length cs
+  pub past-at : (cs : List read.Cell) (is : List Item) (k : ℕ) → from ≤ k → k < to → k < length cs
       → (rest : List (Event Slot Where))
       × (past cs is to ≡ (past cs is k ++ events (recordsAt b n m f) (cellNo (at false) text slash cs is k)) ++ rest)
   unfolding fileEvents each

@@ -3,5 +3,6 @@ pub mod Touch
 pub mod Run
 pub mod RunLaws
 pub mod CellRuns
+pub mod Late
 pub mod TouchLaws
 pub mod Turns

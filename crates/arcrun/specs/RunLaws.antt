@@ -257,7 +257,7 @@ module _ (b text : List ℕ) (slash : Bool) (n m f : ℕ) (side : Bool) where
   entriesOf c is = map (entryEvent (recordsAt b n m f) c) (map (entryOf (at side) text slash) is)
 
   -- entry number k among them
-  events-at : (c : Cell Where) (is : List Item) (k : ℕ) → k < length is
+  pub events-at : (c : Cell Where) (is : List Item) (k : ℕ) → k < length is
       → entriesOf c is ≡ entriesOf c (take k is)
       ++ (entryEvent (recordsAt b n m f) c (entryOf (at side) text slash (getD is k noItem)) ∷ entriesOf c (drop (suc k) is))
   events-at c [] k h = absurd (omega arith)

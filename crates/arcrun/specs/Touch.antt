@@ -1,13 +1,10 @@
 -- Which slots of one arc the entries of a cell touch.
 -- Assumes nothing.
 use Prim.Native.Nat.{ℕ, zero, suc, _+_, _*_}
-use mathlib.Core.Bool.{Bool, true, false}
+use mathlib.Core.Bool.{Bool, false}
 use mathlib.Core.List.{List}
-use lib.Dec.{eqb}
-use Rattle.classes.specs.Choice.{pick, or}
-use Rattle.names.specs.Order.{front}
+use Rattle.classes.specs.Choice.{pick}
 use Rattle.grammar.specs.declared.Entry.{Entry}
-use Rattle.sheetform.specs.Form.{keyAt, pathAt}
 use Rattle.views.specs.Views.{headAt}
 use Rattle.annotate.specs.declared.Whom.{Whom}
 use Rattle.annotate.specs.declared.Whom.the-variants.{One, Every, Nobody}
@@ -21,12 +18,6 @@ meantFor b text slash n h (One p) type q = meantIn b text slash h p q
 meantFor b text slash n h Every type q = meantEvery b text slash h n type q
 meantFor b text slash n h (Nobody x) type q = false
 
--- the instance can have the arc at all: its path is a front part of one of the arc's ends
-unfoldable pub nearBy : List ℕ → Whom → ℕ → Bool
-nearBy b (One p) q = or (eqb (front (keyAt b q .first) (pathAt b p)) 1) (eqb (front (keyAt b q .second) (pathAt b p)) 1)
-nearBy b Every q = true
-nearBy b (Nobody x) q = false
-
 -- the flags of the arc's 18 slots behind the first k entries of a cell, which are numbered from `first` on in the table t
 unfoldable pub entriesTouched : (b text : List ℕ) (slash : Bool) (n : ℕ) (t : List ℕ) (first : ℕ) → Whom → List ℕ → ℕ → List ℕ → ℕ → List ℕ
 entriesTouched b text slash n t first whom type q flags zero = flags
@@ -34,7 +25,3 @@ entriesTouched b text slash n t first whom type q flags (suc k) =
     pick (meantFor b text slash n (headAt t (28 * (first + k))) whom type q)
     (touchedFlags (entriesTouched b text slash n t first whom type q flags k) (rowsAt t (28 * (first + k))) 18)
     (entriesTouched b text slash n t first whom type q flags k)
-
-unfoldable pub cellTouched : (b text : List ℕ) (slash : Bool) (n : ℕ) (t : List ℕ) (first : ℕ) → Whom → List ℕ → ℕ → List ℕ → ℕ → List ℕ
-cellTouched b text slash n t first whom type q flags count =
-    pick (nearBy b whom q) (entriesTouched b text slash n t first whom type q flags count) flags

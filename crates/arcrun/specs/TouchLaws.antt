@@ -8,106 +8,37 @@ use native.Mathlib.Omega.{arith}
 use lib.Dec.{eqb}
 use lib.ListN.{length, getD, take, drop, replicate, length-replicate, getD-replicate, length-append, length-drop, length-map}
 use lib.Seq.{take-all, length-take-le}
-use borrow.Author.Tests.{eqb-true, eq-eqb, le-ltb}
+use borrow.Author.Tests.{eq-eqb}
 use Rattle.classes.specs.Choice.{pick, and, or}
 use Rattle.wire.specs.Wire.{Bytes}
-use Rattle.names.specs.Order.{front, front-nil}
-use Rattle.names.specs.Name.{canon, full, sameName, lastOf, oneBelow, partOf, both}
-use Rattle.names.specs.Laws.{name-exactly}
 use Rattle.grammar.specs.declared.Cell as read
-use Rattle.grammar.specs.declared.Entry as read-entry
 use Rattle.grammar.specs.Meaning.{Item}
 use Rattle.sound.specs.Sound.{SoundItem, total}
-use Rattle.sheetform.specs.Form.{checkOf, Key, keyAt, cmpKey, pathAt}
+use Rattle.sheetform.specs.Form.{checkOf}
 use Rattle.sheetform.specs.declared.SheetCheck.the-variants.{Good}
 use Rattle.sheetlaws.specs.Sheet.{place}
-use Rattle.sheet.specs.Find.{wanted, key-same}
 use Rattle.views.specs.Views.{headAt}
 use Rattle.history.specs.Events.{Supply, nothing, supplied, anyOf, Event, affected}
 use Rattle.history.specs.Events as some-event
-use Rattle.history.specs.EventLaws.{clash}
 use Rattle.history.specs.Sheet.{Records, Slot, Entry, Cell, each, addresses, cellEvent, entryEvent, events, fileEvents}
 use Rattle.slots.specs.Slots.{slotAt}
 use Rattle.amounts.specs.Amounts.{expanded}
 use Rattle.applying.specs.Says.{entryOf, cellOf, cellsOf}
 use Rattle.applying.specs.Judged.{any-append, arcIs, supply, given-is}
 use Rattle.applying.specs.Rows.{EntryIs, head-is, item-expanded}
-use Rattle.applying.specs.Bytes.{deviceHit}
-use Rattle.applying.specs.Below.{not-so, or-all}
 use Rattle.applying.specs.Instances.{recordsAt}
 use Rattle.annotate.specs.declared.Whom.{Whom}
 use Rattle.annotate.specs.declared.Whom.the-variants.{One, Every, Nobody}
 use Rattle.annotate.specs.Entries.{rowsAt, noItem, EntriesAre}
 use Rattle.annotate.specs.CellList.{each-at, before}
 use Rattle.patching.specs.Where.{Where, at}
-use Rattle.patching.specs.Meant.{meantIn, meant-none, meant-one, meant-every}
+use Rattle.patching.specs.Meant.{meant-none, meant-one, meant-every}
 use Rattle.patching.specs.Scratch.{Flags, touchedFlags, touch-flags}
 use Rattle.patching.specs.Own.{length-events}
-use Rattle.arcrun.specs.Touch.{meantFor, nearBy, entriesTouched, cellTouched}
+use Rattle.arcrun.specs.Touch.{meantFor, entriesTouched}
 use Rattle.arcrun.specs.Run.{Of}
 
--- 1. An instance that cannot have the arc
-
--- A full name has its path as a front part.
-
-front-append : (p z : List ℕ) → front (p ++ z) p ≡ 1
-unfolding front
-front-append [] z = front-nil z
-front-append (c ∷ r) z = rw (le-ltb c c (omega arith)) (front-append r z)
-
-front-full : (p x : List ℕ) → front (full p x) p ≡ 1
-unfolding full
-front-full [] x = front-nil x
-front-full (c ∷ r) x = front-append (c ∷ r) (46 ∷ x)
-
-at-front : (name p x : List ℕ) → sameName name (full p x) ≡ true → eqb (front name p) 1 ≡ true
-at-front name p x e = rw (name-exactly name (full p x) .0 e, front-full p x)
-
-module _ (b text : List ℕ) (slash : Bool) where
-  -- an arc that the entry means in the instance at p has its path as a front part of an end
-  meant-near : (h : read-entry.Entry) (p q : ℕ) → meantIn b text slash h p q ≡ true → nearBy b (One p) q ≡ true
-  unfolding meantIn deviceHit nearBy oneBelow wanted
-  meant-near h p q = by (eqb (h .kind) 4)
-    where
-      key : Key
-      key = wanted slash (h .kind) (h .edge1) (h .edge2) (pathAt b p) (partOf text (h .from1) (h .to1)) (partOf text (h .from2) (h .to2))
-
-      name : List ℕ
-      name = canon slash (partOf text (h .from1) (h .to1))
-
-      ends : (t : Bool) → pick t (oneBelow (pathAt b p) (keyAt b q .second)) (sameName (keyAt b q .second) (full (pathAt b p) name)) ≡ true
-          → eqb (front (keyAt b q .second) (pathAt b p)) 1 ≡ true
-      ends true e = at-front (keyAt b q .second) (pathAt b p) (lastOf (keyAt b q .second)) e
-      ends false e = at-front (keyAt b q .second) (pathAt b p) name e
-
-      by : (t : Bool) → pick t (deviceHit b text slash h p q) (eqb (cmpKey (keyAt b q) key) 1) ≡ true → nearBy b (One p) q ≡ true
-      by true e = rw (ends (eqb (h .to1) 0) (both (eqb (keyAt b q .kind) 1) _ e .1)) (or-all (eqb (front (keyAt b q .first) (pathAt b p)) 1))
-      by false e = rw (key-same (keyAt b q) key (eqb-true _ _ e), front-full (pathAt b p) name)
-
-  -- so in one without such a path no entry means it
-  pub near-by : (n : ℕ) (h : read-entry.Entry) (whom : Whom) (type : List ℕ) (q : ℕ) → nearBy b whom q ≡ false
-      → meantFor b text slash n h whom type q ≡ false
-  unfolding meantFor nearBy
-  near-by n h (One p) type q e = not-so _ (λ x. clash (sym e ∙ meant-near h p q x))
-  near-by n h Every type q e = clash (sym e)
-  near-by n h (Nobody x) type q e = refl
-
-  -- and leaving the cell out changes nothing
-  pub cell-entries : (n : ℕ) (t : List ℕ) (first : ℕ) (whom : Whom) (type : List ℕ) (q : ℕ) (flags : List ℕ) (count : ℕ)
-      → cellTouched b text slash n t first whom type q flags count ≡ entriesTouched b text slash n t first whom type q flags count
-  unfolding cellTouched entriesTouched
-  cell-entries n t first whom type q flags count = by (nearBy b whom q) refl
-    where
-      none-touched : nearBy b whom q ≡ false → (k : ℕ) → entriesTouched b text slash n t first whom type q flags k ≡ flags
-      none-touched e zero = refl
-      none-touched e (suc k) = rw (near-by n (headAt t (28 * (first + k))) whom type q e) (none-touched e k)
-
-      by : (y : Bool) → nearBy b whom q ≡ y
-          → pick y (entriesTouched b text slash n t first whom type q flags count) flags ≡ entriesTouched b text slash n t first whom type q flags count
-      by true e = refl
-      by false e = sym (none-touched e count)
-
--- 2. One entry
+-- 1. One entry
 
 or-false : (b : Bool) → or b false ≡ b
 or-false true = refl
@@ -187,7 +118,7 @@ module _ (b : List ℕ) (bytes : Bytes b) (n m f : ℕ) (good : checkOf b ≡ Go
           (λ k l. rw (entry-supplies c i (slotAt j k), q, eq-eqb j j refl))
       by false q = flags-same flags j _ _ g (λ k l. rw (entry-supplies c i (slotAt j k), q) (sym (or-false (touched (slotAt j k)))))
 
-  -- 3. The entries of a cell
+  -- 2. The entries of a cell
 
   -- entry number k is next among the events
   pub events-next : (c : Cell Where) (is : List Item) (k : ℕ) → k < length is
@@ -219,12 +150,7 @@ module _ (b : List ℕ) (bytes : Bytes b) (n m f : ℕ) (good : checkOf b ≡ Go
         (λ s. or (touched s) (some-event.supply (entryEvents c is) s))
     entries-touched = rw (take-all count is (omega (arith, a .0))) at (entries-so-far count (omega arith))
 
-    -- and those of a cell that is looked at only where it can have the arc
-    pub cell-touched : Flags (cellTouched b text slash n t first whom (c .type) (place b j f) flags count) j
-        (λ s. or (touched s) (some-event.supply (entryEvents c is) s))
-    cell-touched = rw (cell-entries b text slash n t first whom (c .type) (place b j f) flags count) entries-touched
-
--- 4. No flags, and those of two cells
+-- 3. No flags, and those of two cells
 
 pub no-flags : (j : ℕ) → Flags (replicate 18 0) j (λ s. false)
 no-flags j = record { count = length-replicate {A = ℕ} 18 0; flag = λ i l. rw (getD-replicate {A = ℕ} 18 i 0 0 l) }
@@ -246,11 +172,11 @@ module _ (b : List ℕ) (bytes : Bytes b) (n m f : ℕ) (good : checkOf b ≡ Go
   pub cell-supplies : (text : List ℕ) (side : Bool) (t : List ℕ) (first count : ℕ) (whom : Whom) (cell : read.Cell) (is : List Item)
       → Of b n m f whom (cellOf (at side) text slash cell is) → EntriesAre t first count is
       → (flags : List ℕ) (touched : Slot → Bool) → Flags flags j touched
-      → Flags (cellTouched b text slash n t first whom (cellOf (at side) text slash cell is .type) (place b j f) flags count) j
+      → Flags (entriesTouched b text slash n t first whom (cellOf (at side) text slash cell is .type) (place b j f) flags count) j
       (λ s. or (touched s) (some-event.supply (events (recordsAt b n m f) (cellOf (at side) text slash cell is)) s))
   cell-supplies text side t first count whom cell is w a flags touched g =
       let c = cellOf (at side) text slash cell is in
-      flags-same _ j _ _ (cell-touched b bytes n m f good text slash side j j-below t first count whom c w is a flags touched g)
+      flags-same _ j _ _ (entries-touched b bytes n m f good text slash side j j-below t first count whom c w is a flags touched g)
       (λ i l. rw (supply-events (recordsAt b n m f) (at side) text slash cell is (slotAt j i)))
 
   -- 'every value slot supplied by the outgoing or the incoming cell'
@@ -258,15 +184,15 @@ module _ (b : List ℕ) (bytes : Bytes b) (n m f : ℕ) (good : checkOf b ≡ Go
       → Of b n m f whom1 (cellOf (at false) file slash cell1 is1) → EntriesAre t1 first1 count1 is1
       → (text : List ℕ) (t2 : List ℕ) (first2 count2 : ℕ) (whom2 : Whom) (cell2 : read.Cell) (is2 : List Item)
       → Of b n m f whom2 (cellOf (at true) text slash cell2 is2) → EntriesAre t2 first2 count2 is2
-      → Flags (cellTouched b text slash n t2 first2 whom2 (cellOf (at true) text slash cell2 is2 .type) (place b j f)
-      (cellTouched b file slash n t1 first1 whom1 (cellOf (at false) file slash cell1 is1 .type) (place b j f) (replicate 18 0) count1) count2) j
+      → Flags (entriesTouched b text slash n t2 first2 whom2 (cellOf (at true) text slash cell2 is2 .type) (place b j f)
+      (entriesTouched b file slash n t1 first1 whom1 (cellOf (at false) file slash cell1 is1 .type) (place b j f) (replicate 18 0) count1) count2) j
       (affected (events (recordsAt b n m f) (cellOf (at false) file slash cell1 is1)) (events (recordsAt b n m f) (cellOf (at true) text slash cell2 is2)))
   unfolding affected
   both-touched file t1 first1 count1 whom1 cell1 is1 w1 a1 text t2 first2 count2 whom2 cell2 is2 w2 a2 =
       cell-supplies text true t2 first2 count2 whom2 cell2 is2 w2 a2 _ _
       (cell-supplies file false t1 first1 count1 whom1 cell1 is1 w1 a1 (replicate 18 0) (λ s. false) (no-flags j))
 
--- 5. How many events the first cells of a file have
+-- 4. How many events the first cells of a file have
 
 pub length-file : (records : Records) {Word : Type 0} (word : ℕ → Word) (text : List ℕ) (slash : Bool) (cs : List read.Cell) (is : List Item) (k : ℕ)
     → k ≤ length cs → total cs ≡ length is → length (fileEvents records (take k (cellsOf word text slash cs is))) ≡ k + before cs k

@@ -2,18 +2,17 @@
 // `side` tells which text a table belongs to: false the file, true the incoming cell.
 ghost use mathlib.Core.Path.{_≡_};
 ghost use mathlib.Core.List.{[], _∷_};
-ghost use Prim.Native.Nat.{_+_, _*_, _≤_, _<_};
-ghost use lib.ListN.{length, getD};
+ghost use Prim.Native.Nat.{_+_, _≤_, _<_};
+ghost use lib.ListN.{length};
 ghost use Rattle.classes.specs.Choice.{pick, and};
 ghost use Rattle.sheetlaws.specs.Sheet.{inEnd, arNext};
 ghost use Rattle.sheet.specs.Find.{InstanceSearch};
 ghost use Rattle.annotate.specs.Whom.{InSheet};
-ghost use Rattle.annotate.specs.Cells.{entriesBefore};
 ghost use Rattle.patching.specs.Scratch.{masked, maskedWord, touchedFlags};
 ghost use Rattle.patching.specs.Meant.{meantIn, meantEvery, mayTouch};
 ghost use Rattle.arcrun.specs.Only.{pathBefore, onlyPath, MeantOn};
-ghost use Rattle.arcrun.specs.Touch.{meantFor, nearBy, entriesTouched, cellTouched};
-ghost use Rattle.arcrun.specs.Run.{entryNumber, entryState, EntriesRan, CellRan, CellsRan};
+ghost use Rattle.arcrun.specs.Touch.{meantFor};
+ghost use Rattle.arcrun.specs.Run.{entryNumber, entryState};
 use annotate::Whom;
 use apply::Plan;
 use grammar::Entry;
@@ -39,8 +38,6 @@ const CHECK: u8 = 84;
 const ADDS: u8 = 73;
 
 const SAME: u8 = 1;
-
-const EVERY: u8 = 2;
 
 const EMPTY: u64 = 0x8000_0000_0000_0000;
 
@@ -212,7 +209,7 @@ pub fn is_meant<'a>(
 }
 
 // Flags the slots to which an expanded list gives a number.
-fn touch_rows(rows: [[u64; 3]; 6], flags: &mut [u8])
+pub fn touch_rows(rows: [[u64; 3]; 6], flags: &mut [u8])
     requires { ⌜ length (now flags) ≡ 18 ⌝ }
     ensures { λ _. ⌜ now (flags .exit) ≡ touchedFlags (now (flags .entry)) rows 18 ⌝ }
 {
@@ -222,108 +219,6 @@ fn touch_rows(rows: [[u64; 3]; 6], flags: &mut [u8])
             flags[slot] = 1;
         }
         slot += 1;
-    }
-}
-
-// Flags the slots of an arc that so many entries supply, from entry number `first` of their table on.
-fn touch_entries<'a>(
-    start: &[u8],
-    file: &'a [u8],
-    incoming: &'a [u8],
-    side: bool,
-    plan: Plan,
-    places: &[u32; 4096],
-    entries: &[u64],
-    first: usize,
-    count: usize,
-    whom: Whom,
-    celltype: &[u8],
-    arc: usize,
-    flags: &mut [u8],
-)
-    requires { ⌜ (InstanceSearch (now start) (plan .instances) 12 (now places)) × (arNext (now start) arc ≤ length (now start)) × (InSheet (now start) whom)
-        × (28 * (first + count) ≤ length (now entries)) × (length (now flags) ≡ 18) ⌝ }
-    ensures { λ _. ⌜ now (flags .exit) ≡ entriesTouched (now (start .entry)) (pick side (now (incoming .entry)) (now (file .entry))) (plan .slash)
-        (plan .instances) (now (entries .entry)) first whom (now (celltype .entry)) arc (now (flags .entry)) count ⌝ }
-{
-    let mut k = 0;
-    while k < count {
-        let row = 28 * (first + k);
-        let entry = views::head_at(entries, row);
-        if is_meant(
-            start,
-            file,
-            incoming,
-            side,
-            plan,
-            places,
-            entry,
-            whom,
-            celltype,
-            arc,
-        ) {
-            let rows = amounts::expand(entries, row + 10, entry.group == CHECK, entries[row + 9]);
-            touch_rows(rows, flags);
-        }
-        k += 1;
-    }
-}
-
-// Whether the instance that a cell names can have the arc at all: its path is a front part of one of the arc's ends.
-fn near_by(start: &[u8], whom: Whom, arc: usize) -> bool
-    requires { ⌜ (arNext (now start) arc ≤ length (now start)) × InSheet (now start) whom ⌝ }
-    ensures { λ r. ⌜ r ≡ nearBy (now (start .entry)) whom arc ⌝ }
-{
-    match whom {
-        Whom::Nobody(number) => false,
-        Whom::Every => true,
-        Whom::One(instance) => {
-            let path = sheet::instance_path(start, instance);
-            if names::cmp_front_written(sheet::first_end(start, arc), path, false) == SAME {
-                return true;
-            }
-            names::cmp_front_written(sheet::second_end(start, arc), path, false) == SAME
-        }
-    }
-}
-
-// Flags the slots of an arc that a cell supplies.
-pub fn touch_cell<'a>(
-    start: &[u8],
-    file: &'a [u8],
-    incoming: &'a [u8],
-    side: bool,
-    plan: Plan,
-    places: &[u32; 4096],
-    entries: &[u64],
-    first: usize,
-    count: usize,
-    whom: Whom,
-    celltype: &[u8],
-    arc: usize,
-    flags: &mut [u8],
-)
-    requires { ⌜ (InstanceSearch (now start) (plan .instances) 12 (now places)) × (arNext (now start) arc ≤ length (now start)) × (InSheet (now start) whom)
-        × (28 * (first + count) ≤ length (now entries)) × (length (now flags) ≡ 18) ⌝ }
-    ensures { λ _. ⌜ now (flags .exit) ≡ cellTouched (now (start .entry)) (pick side (now (incoming .entry)) (now (file .entry))) (plan .slash)
-        (plan .instances) (now (entries .entry)) first whom (now (celltype .entry)) arc (now (flags .entry)) count ⌝ }
-{
-    if near_by(start, whom, arc) {
-        touch_entries(
-            start,
-            file,
-            incoming,
-            side,
-            plan,
-            places,
-            entries,
-            first,
-            count,
-            whom,
-            celltype,
-            arc,
-            flags,
-        );
     }
 }
 
@@ -415,61 +310,6 @@ pub fn run_entry<'a>(
     number
 }
 
-// Takes them through so many entries of one cell, the first of which is an event's number.
-fn run_entries<'a>(
-    start: &[u8],
-    file: &'a [u8],
-    incoming: &'a [u8],
-    side: bool,
-    plan: Plan,
-    places: &[u32; 4096],
-    entries: &[u64],
-    first: usize,
-    count: usize,
-    whom: Whom,
-    celltype: &[u8],
-    arc: usize,
-    flags: &[u8],
-    state: &mut [u8],
-    event: usize,
-) -> Least
-    requires { ⌜ (InstanceSearch (now start) (plan .instances) 12 (now places)) × (arNext (now start) arc ≤ length (now start)) × (InSheet (now start) whom)
-        × (28 * (first + count) ≤ length (now entries)) × (length (now flags) ≡ 18) × (length (now state) ≡ 144) × (event + count < 18446744073709551616) ⌝ }
-    ensures { λ r. ⌜ (length (now (state .exit)) ≡ 144) × EntriesRan (now (start .entry)) (pick side (now (incoming .entry)) (now (file .entry)))
-        (plan .slash) (plan .instances) (plan .arcs) (plan .first) side (now (entries .entry)) first count whom (now (celltype .entry)) arc
-        (now (flags .entry)) (now (state .entry)) (now (state .exit)) event r ⌝ }
-{
-    let mut k = 0;
-    while k < count {
-        let row = 28 * (first + k);
-        let number = run_entry(
-            start,
-            file,
-            incoming,
-            side,
-            plan,
-            places,
-            entries,
-            row,
-            whom,
-            celltype,
-            arc,
-            flags,
-            state,
-        );
-        if number != 0 {
-            return Least::Fault {
-                event: event + k,
-                number: number,
-                place: entries[row + 2] as usize,
-                incoming: side,
-            };
-        }
-        k += 1;
-    }
-    Least::Nothing
-}
-
 // Whether a cell of a text can touch the arc: its path is a front part of one of the arc's ends.
 pub fn may_touch<'a>(
     start: &[u8],
@@ -489,128 +329,4 @@ pub fn may_touch<'a>(
         return true;
     }
     names::cmp_front_written(sheet::second_end(start, arc), path, slash) == SAME
-}
-
-// Takes them through a cell, whose keyword is an event's number, if it can touch the arc.
-pub fn run_cell<'a>(
-    start: &[u8],
-    file: &'a [u8],
-    incoming: &'a [u8],
-    side: bool,
-    plan: Plan,
-    places: &[u32; 4096],
-    cells: &[u64],
-    row: usize,
-    entries: &[u64],
-    first: usize,
-    arc: usize,
-    flags: &[u8],
-    state: &mut [u8],
-    event: usize,
-) -> Least
-    requires { ⌜ (InstanceSearch (now start) (plan .instances) 12 (now places)) × (arNext (now start) arc ≤ length (now start))
-        × (row + 7 ≤ length (now cells)) × (28 * (first + getD (now cells) (row + 6) 0) ≤ length (now entries)) × (length (now flags) ≡ 18)
-        × (length (now state) ≡ 144) × (event + 1 + getD (now cells) (row + 6) 0 < 18446744073709551616) ⌝ }
-    ensures { λ r. ⌜ (length (now (state .exit)) ≡ 144) × CellRan (now (start .entry)) (pick side (now (incoming .entry)) (now (file .entry))) (plan .slash)
-        (plan .instances) (plan .arcs) (plan .first) side (now (cells .entry)) row (now (entries .entry)) first arc (now (flags .entry))
-        (now (state .entry)) (now (state .exit)) event r ⌝ }
-{
-    let cell = views::cell_at(cells, row);
-    if cell.sort != EVERY {
-        if !may_touch(
-            start,
-            file,
-            incoming,
-            side,
-            plan.slash,
-            cell.pathfrom,
-            cell.pathto,
-            arc,
-        ) {
-            return Least::Nothing;
-        }
-    }
-    let celltype = names::name_of(file, incoming, side, cell.typefrom, cell.typeto);
-    let whom = annotate::whom_of(start, text_of(file, incoming, side), plan, places, cell);
-    run_entries(
-        start,
-        file,
-        incoming,
-        side,
-        plan,
-        places,
-        entries,
-        first,
-        cell.entries,
-        whom,
-        celltype,
-        arc,
-        flags,
-        state,
-        event + 1,
-    )
-}
-
-// Takes them through the file's cells number `from` up to `to`, from 0 on; `before` entries stand before them, and their events start at `begin`.
-pub fn run_cells<'a>(
-    start: &[u8],
-    file: &'a [u8],
-    incoming: &'a [u8],
-    plan: Plan,
-    places: &[u32; 4096],
-    cells: &[u64],
-    from: usize,
-    to: usize,
-    entries: &[u64],
-    before: usize,
-    arc: usize,
-    flags: &[u8],
-    state: &mut [u8],
-    begin: usize,
-) -> Least
-    requires { ⌜ (InstanceSearch (now start) (plan .instances) 12 (now places)) × (arNext (now start) arc ≤ length (now start))
-        × (7 * to ≤ length (now cells)) × (before ≡ entriesBefore (now cells) from) × (28 * entriesBefore (now cells) to ≤ length (now entries))
-        × (length (now flags) ≡ 18) × (length (now state) ≡ 144)
-        × (begin + (to + entriesBefore (now cells) to) < 18446744073709551616) ⌝ }
-    ensures { λ r. ⌜ (length (now (state .exit)) ≡ 144) × CellsRan (now (start .entry)) (now (file .entry)) (plan .slash) (plan .instances) (plan .arcs)
-        (plan .first) (now (cells .entry)) from to (now (entries .entry)) arc (now (flags .entry)) (now (state .entry)) (now (state .exit)) begin r ⌝ }
-{
-    let mut k = from;
-    let mut first = before;
-    let mut event = begin;
-    while k < to {
-        let row = 7 * k;
-        let least = run_cell(
-            start,
-            file,
-            incoming,
-            false,
-            plan,
-            places,
-            cells,
-            row,
-            entries,
-            first,
-            arc,
-            flags,
-            state,
-            event,
-        );
-        match least {
-            Least::Fault {
-                event: e,
-                number,
-                place,
-                incoming: i,
-            } => {
-                return least;
-            }
-            Least::Nothing => {}
-        }
-        let count = cells[row + 6] as usize;
-        first += count;
-        event += 1 + count;
-        k += 1;
-    }
-    Least::Nothing
 }

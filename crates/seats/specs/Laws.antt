@@ -1,19 +1,19 @@
 -- Names that agree, parts of a table, and one turn of each loop over seats.
 -- Assumes nothing.
-use Prim.Native.Nat.{ℕ, zero, suc, _+_, _-_, _*_, _<_, _≤_}
+use Prim.Native.Nat.{ℕ, zero, suc, _+_, _*_, _<_, _≤_}
 use mathlib.Core.Path.{_≡_, refl, sym, ap, _∙_}
 use mathlib.Core.Bool.{Bool, true, false, not}
-use mathlib.Core.List.{List, [], _∷_, _++_, append-assoc}
+use mathlib.Core.List.{List, [], _∷_}
+use mathlib.Core.Logic.{_⊎_, inl, inr, ⊎-elim}
 use native.Mathlib.Omega.{arith}
-use native.Mathlib.Numerals.{add-one}
-use lib.Dec.{eqb, ltb}
-use lib.ListN.{length, getD, take, drop, length-drop, take-append-drop}
-use lib.Seq.{paste, length-take-le, take-append-le, drop-append-le, take-at, drop-at, take-length, drop-drop, drop-paste, take-take, drop-cons, take-suc}
-use borrow.Author.Tests.{eqb-true, eqb-false, eq-eqb, ne-eqb, ltb-true, ltb-false, le-ltb, not-true}
+use lib.Dec.{eqb, ltb, leb}
+use lib.ListN.{length, getD, take}
+use lib.Seq.{take-take}
+use borrow.Author.Tests.{eqb-true, eqb-false, eq-eqb, ne-eqb, ltb-false, leb-true, leb-false, le-ltb, not-true}
 use Rattle.classes.specs.Choice.{pick, and, or}
 use Rattle.names.specs.Shape.{escapes}
 use Rattle.names.specs.Order.{front, front-nil, front-cons, sameText}
-use Rattle.names.specs.Name.{canon, canonFrom, turned, canon-cons, partOf, both}
+use Rattle.names.specs.Name.{canon, canonFrom, turned, partOf, both}
 use Rattle.sheetform.specs.Form.{Key, keyAt, pathAt, typeAt, cmpKey}
 use Rattle.sheetlaws.specs.Sheet.{inEnd, nth}
 use Rattle.views.specs.Views.{cellAt, headAt}
@@ -26,18 +26,21 @@ use Rattle.annotate.specs.declared.Whom.{Whom}
 use Rattle.annotate.specs.declared.Whom.the-variants.{One, Every, Nobody}
 use Rattle.annotate.specs.Whom.{whomOf}
 use Rattle.patching.specs.Meant.{mayTouch, meantIn, meantEvery}
+use Rattle.amounts.specs.Amounts.{lesser, arcWritten}
+use Rattle.annotate.specs.Entries.{rowsAt}
+use Rattle.patching.specs.Scratch.{masked}
+use Rattle.arcrun.specs.declared.Least.{Least}
 use Rattle.arcrun.specs.declared.Least.the-variants as least
 use Rattle.arcrun.specs.Touch.{meantFor}
-use Rattle.arcrun.specs.Run.{entryNumber, entryState, EntriesRan, CellRan, CellsRan}
-use Rattle.arcrun.specs.RunLaws.{RunSoFar, run-none, run-more, run-end}
-use Rattle.arcrun.specs.CellRuns.{cell-ran, cell-skipped, CellsSoFar, cells-none, cells-more, cells-end}
-use Rattle.seats.specs.Seats.{agree, Ends, Common, NoneNear, kindFits, NoneFits, partNo, SeatRan, EntryRan, EntriesSeatsRan, SeatsRan, CellsSeatsRan}
+use Rattle.arcrun.specs.Run.{rowRefusal, entryNumber, entryState}
+use Rattle.arcrun.specs.RunLaws.{RunSoFar, run-none, run-more, run-stop, run-end}
+use Rattle.arcrun.specs.CellRuns.{cell-ran, cell-skipped, CellsSoFar, cells-none, cells-more, cells-stop, cells-end}
+use Rattle.arcrun.specs.Late.{late-stop, cell-late, cells-late}
+use Rattle.findseat.specs.Findseat.{OnlySeat}
+use Rattle.choosing.specs.Parts.{partNo, part-own, part-other}
+use Rattle.seats.specs.Seats.{agree, Ends, Common, NoneNear, kindFits, NoneFits, LeastOf, SeatRan, EntryRan, EntryFault, EntryRun, EntriesSeatsRan, SeatsRan, CellsSeatsRan}
 
 -- 1. Names that agree
-
-agree-cons : (c d : ℕ) (r s : List ℕ) → agree (c ∷ r) (d ∷ s) ≡ and (eqb c d) (agree r s)
-unfolding agree
-agree-cons c d r s = refl
 
 pub agree-nil : (x : List ℕ) → agree x [] ≡ true
 unfolding agree
@@ -159,47 +162,6 @@ far-off b text slash from to q x a ends =
 
 -- 3. Parts of a table
 
-part-before : (t p : List ℕ) (a at n k : ℕ) → a + k ≤ at → at ≤ length t → take k (drop a (paste t at p n)) ≡ take k (drop a t)
-part-before t p a at n k h g =
-    let l = length-take-le at t g in
-    let d = length-drop a (take at t) in
-    let x = drop-append-le a (take at t) (take n p ++ drop (at + n) t) (omega arith) in
-    let y = drop-append-le a (take at t) (drop at t) (omega arith) in
-    let u = take-append-le k (drop a (take at t)) (take n p ++ drop (at + n) t) (omega arith) in
-    let v = take-append-le k (drop a (take at t)) (drop at t) (omega arith) in
-    ap (λ (l : List ℕ). take k (drop a l)) (append-assoc (take at t) (take n p) (drop (at + n) t)) ∙ ap (take k) x ∙ u ∙ sym v ∙ sym (ap (take k) y) ∙ ap (λ (l : List ℕ). take k (drop a l)) (take-append-drop at t)
-
-part-behind : (t p : List ℕ) (a at n : ℕ) → at + n ≤ a → at ≤ length t → n ≤ length p → drop a (paste t at p n) ≡ drop a t
-part-behind t p a at n h g l =
-    let e : at + n + (a - (at + n)) ≡ a = omega arith in
-    rw (← e) (sym (drop-drop (a - (at + n)) (at + n) (paste t at p n)) ∙ ap (drop (a - (at + n))) (drop-paste t at p n g l) ∙ drop-drop (a - (at + n)) (at + n) t)
-
-pub part-own : (t p : List ℕ) (at n : ℕ) → at ≤ length t → length p ≡ n → take n (drop at (paste t at p n)) ≡ p
-part-own t p at n g l =
-    let x = drop-at (take at t) (take n p ++ drop (at + n) t) at (length-take-le at t g) in
-    let e : take n p ≡ p = rw (← l) (take-length p) in
-    ap (λ (l : List ℕ). take n (drop at l)) (append-assoc (take at t) (take n p) (drop (at + n) t))
-    ∙ ap (take n) x ∙ ap (λ (z : List ℕ). take n (z ++ drop (at + n) t)) e ∙ take-at p (drop (at + n) t) n l
-
--- the other parts
-module _ (size : ℕ) (t p : List ℕ) (s i : ℕ) where
-  part-else : size * s ≤ length t → length p ≡ size → (i ≡ s → ⊥) → (i < s → size * i + size ≤ size * s) → (s < i → size * s + size ≤ size * i)
-      → partNo size (paste t (size * s) p size) i ≡ partNo size t i
-  part-else g l d x y = go (ltb i s) refl
-    where
-      go : (z : Bool) → ltb i s ≡ z → partNo size (paste t (size * s) p size) i ≡ partNo size t i
-      go true e = part-before t p (size * i) (size * s) size size (x (ltb-true i s e)) g
-      go false e =
-          let u = ltb-false i s e in
-          ap (take size) (part-behind t p (size * i) (size * s) size (y (omega arith)) g (omega arith))
-
--- of 144 bytes, of 18
-pub part-other : (t p : List ℕ) (s i : ℕ) → 144 * s ≤ length t → length p ≡ 144 → (i ≡ s → ⊥) → partNo 144 (paste t (144 * s) p 144) i ≡ partNo 144 t i
-part-other t p s i g l d = part-else 144 t p s i g l d (λ h. omega arith) (λ h. omega arith)
-
-pub flags-other : (t p : List ℕ) (s i : ℕ) → 18 * s ≤ length t → length p ≡ 18 → (i ≡ s → ⊥) → partNo 18 (paste t (18 * s) p 18) i ≡ partNo 18 t i
-flags-other t p s i g l d = part-else 18 t p s i g l d (λ h. omega arith) (λ h. omega arith)
-
 -- 4. An entry that cannot mean an arc
 
 module _ (b text : List ℕ) (slash : Bool) (n : ℕ) (h : Entry) (q : ℕ) (no : kindFits (h .kind) (keyAt b q .kind) ≡ false) where
@@ -237,70 +199,224 @@ module _ (b text : List ℕ) (slash : Bool) (n : ℕ) (h : Entry) (q : ℕ) (no 
   unmeant (Nobody x) type = refl
 
 -- it changes nothing
-module _ (b text : List ℕ) (slash : Bool) (n : ℕ) (t : List ℕ) (row : ℕ) (whom : Whom) (type : List ℕ) (q : ℕ) (flags st : List ℕ)
-    (no : meantFor b text slash n (headAt t row) whom type q ≡ false) where
-  passed-number : entryNumber b text slash n t row whom type q flags st ≡ 0
+module _ (b text : List ℕ) (slash : Bool) (n : ℕ) (t : List ℕ) (row : ℕ) (whom : Whom) (type : List ℕ) (q : ℕ) (flags st : List ℕ) where
+  passed-number : meantFor b text slash n (headAt t row) whom type q ≡ false → entryNumber b text slash n t row whom type q flags st ≡ 0
   unfolding entryNumber
-  passed-number = rw no
+  passed-number un = rw un
 
-  passed-state : entryState b text slash n t row whom type q flags st ≡ st
+  passed-state : meantFor b text slash n (headAt t row) whom type q ≡ false → entryState b text slash n t row whom type q flags st ≡ st
   unfolding entryState
-  passed-state = rw no
+  passed-state un = rw un
 
--- 5. One seat more
+  -- nor does one with a fault
+  fault-state : (entryNumber b text slash n t row whom type q flags st ≡ 0 → ⊥) → entryState b text slash n t row whom type q flags st ≡ st
+  unfolding entryNumber entryState
+  fault-state bad = go (meantFor b text slash n (headAt t row) whom type q) refl
+    where
+      go : (z : Bool) → meantFor b text slash n (headAt t row) whom type q ≡ z
+          → pick z (pick (eqb (rowRefusal b text slash n t row whom type q flags st) 0)
+          (arcWritten st 0 (masked (rowsAt t row) flags) (eqb (headAt t row .group) 73) 18) st) st ≡ st
+      go true e = rw (ne-eqb (rowRefusal b text slash n t row whom type q flags st) 0 (rw e at bad))
+      go false e = refl
 
-module _ (b text : List ℕ) (slash : Bool) (n : ℕ) (t : List ℕ) (row : ℕ) (whom : Whom) (type : List ℕ) (arcs flags states : List ℕ) where
-  -- the first i seats were run, and the others are as they were
-  abbrev pub SeatsSoFar : ℕ → List ℕ → Type 0
-  SeatsSoFar i o =
-      (EntryRan b text slash n t row whom type arcs flags states i o) × ((k : ℕ) → i ≤ k → partNo 144 o k ≡ partNo 144 states k)
+-- 5. The least number of the seats
 
-  pub seats-none : SeatsSoFar 0 states
-  seats-none = (λ i h. absurd (omega arith), λ k h. refl)
+module _ (number : ℕ → ℕ) where
+  least-none : LeastOf number 0 0
+  least-none = (λ k h. absurd (omega arith), λ e. absurd (e refl))
 
-  pub seats-more : (i : ℕ) (o o′ : List ℕ) → 144 * i + 144 ≤ length o → SeatsSoFar i o
-      → SeatRan b text slash n t row whom type (getD arcs i 0) flags o o′ i → SeatsSoFar (i + 1) o′
-  seats-more i o o′ long so run = (
+  -- one number more, of which x is the new least
+  least-step : (i l x : ℕ) → LeastOf number i l → ((number i ≡ 0) ⊎ ((0 < x) × (x ≤ number i)))
+      → (0 < l → (0 < x) × (x ≤ l)) → ((x ≡ 0 → ⊥) → (x ≡ l) ⊎ (x ≡ number i)) → LeastOf number (i + 1) x
+  least-step i l x so own old new = (
     λ k h. go k h (eqb k i) refl,
-    λ k h. rw (run .2) (part-other o (run .0) i k (omega arith) (run .1) (λ e. omega arith)) ∙ so .1 k (omega arith),
+    λ e. ⊎-elim
+        (λ z. let w = so .1 (λ d. e (z ∙ d)) in (w .0, (let y = w .1 in omega arith), w .2 ∙ sym z))
+        (λ z. (i, omega arith, sym z)) (new e),
   )
     where
-      own : partNo 144 o′ i ≡ run .0
-      own = rw (run .2) (part-own o (run .0) (144 * i) 144 (omega arith) (run .1))
-
-      go : (k : ℕ) → k < i + 1 → (z : Bool) → eqb k i ≡ z
-          → (entryNumber b text slash n t row whom type (getD arcs k 0) (partNo 18 flags k) (partNo 144 states k) ≡ 0)
-          × (partNo 144 o′ k ≡ entryState b text slash n t row whom type (getD arcs k 0) (partNo 18 flags k) (partNo 144 states k))
-      go k h true e = rw (eqb-true k i e, own, ← so .1 i (omega arith)) (run .3, run .4)
+      go : (k : ℕ) → k < i + 1 → (t : Bool) → eqb k i ≡ t → (number k ≡ 0) ⊎ ((0 < x) × (x ≤ number k))
+      go k h true e = rw (eqb-true k i e) own
       go k h false e =
           let d = eqb-false k i e in
-          rw (run .2, part-other o (run .0) i k (omega arith) (run .1) d) (so .0 k (omega arith))
+          ⊎-elim (λ z. inl z) (λ w. let u = old (w .0) in let v = w .1 in inr (u .0, omega (arith, u .1, v))) (so .0 k (omega arith))
+
+  -- a number that is 0
+  least-pass : (i l : ℕ) → LeastOf number i l → number i ≡ 0 → LeastOf number (i + 1) l
+  least-pass i l so z = least-step i l l so (inl z) (λ h. (h, omega arith)) (λ e. inl refl)
+
+  least-more : (i l r : ℕ) → r ≡ number i → LeastOf number i l → LeastOf number (i + 1) (lesser l r)
+  unfolding lesser
+  least-more i l r p so = first (eqb l 0) refl
+    where
+      third : (t : Bool) → leb l r ≡ t → (l ≡ 0 → ⊥) → (r ≡ 0 → ⊥) → LeastOf number (i + 1) (pick t l r)
+      third true e d g =
+          let w = leb-true l r e in
+          least-step i l l so (inr (omega arith, omega arith)) (λ h. (h, omega arith)) (λ z. inl refl)
+      third false e d g =
+          let w = leb-false l r e in
+          least-step i l r so (inr (omega arith, omega arith)) (λ h. (omega arith, omega arith)) (λ z. inr p)
+
+      second : (t : Bool) → eqb r 0 ≡ t → (l ≡ 0 → ⊥) → LeastOf number (i + 1) (pick t l (pick (leb l r) l r))
+      second true e d = let z = eqb-true r 0 e in least-pass i l so (sym p ∙ z)
+      second false e d = third (leb l r) refl d (eqb-false r 0 e)
+
+      own : (t : Bool) → eqb r 0 ≡ t → (number i ≡ 0) ⊎ ((0 < r) × (r ≤ number i))
+      own true e = let z = eqb-true r 0 e in inl (sym p ∙ z)
+      own false e = let z = eqb-false r 0 e in inr (omega arith, omega arith)
+
+      first : (t : Bool) → eqb l 0 ≡ t → LeastOf number (i + 1) (pick t r (pick (eqb r 0) l (pick (leb l r) l r)))
+      first true e =
+          let z = eqb-true l 0 e in
+          least-step i l r so (own (eqb r 0) refl) (λ h. absurd (omega arith)) (λ x. inr p)
+      first false e = second (eqb r 0) refl (eqb-false l 0 e)
+
+  -- all but one are 0
+  least-one : (count s : ℕ) → s < count → ((k : ℕ) → k < count → (k ≡ s → ⊥) → number k ≡ 0) → LeastOf number count (number s)
+  least-one count s h none = (λ k l. go k l (eqb k s) refl, λ e. (s, h, refl))
+    where
+      own : (t : Bool) → eqb (number s) 0 ≡ t → (number s ≡ 0) ⊎ ((0 < number s) × (number s ≤ number s))
+      own true e = inl (eqb-true (number s) 0 e)
+      own false e = let z = eqb-false (number s) 0 e in inr (omega arith, omega arith)
+
+      go : (k : ℕ) → k < count → (t : Bool) → eqb k s ≡ t → (number k ≡ 0) ⊎ ((0 < number s) × (number s ≤ number k))
+      go k l true e = rw (eqb-true k s e) (own (eqb (number s) 0) refl)
+      go k l false e = inl (none k l (eqb-false k s e))
+
+  least-all : (count : ℕ) → ((k : ℕ) → k < count → number k ≡ 0) → LeastOf number count 0
+  least-all count none = (λ k l. inl (none k l), λ e. absurd (e refl))
+
+-- 6. One seat more
+
+module _ (b text : List ℕ) (slash : Bool) (n : ℕ) (t : List ℕ) (row : ℕ) (whom : Whom) (type : List ℕ) (arcs flags states : List ℕ) where
+  -- the entry's number and the state behind it, seat by seat
+  abbrev number : ℕ → ℕ
+  number i = entryNumber b text slash n t row whom type (getD arcs i 0) (partNo 18 flags i) (partNo 144 states i)
+
+  abbrev state : ℕ → List ℕ
+  state i = entryState b text slash n t row whom type (getD arcs i 0) (partNo 18 flags i) (partNo 144 states i)
+
+  -- the states of the first i seats are those behind it, whether or not it has a fault, and their least number is l
+  entry-run : (count l : ℕ) (o : List ℕ) → ((k : ℕ) → k < count → partNo 144 o k ≡ state k) → LeastOf number count l
+      → EntryRun b text slash n t row whom type arcs flags states count o l
+  entry-run count l o held so = (
+    λ e i h. (⊎-elim (λ z. z) (λ w. let y = w .0 in absurd (omega arith)) (so .0 i h), held i h),
+    λ e. (so .1 e, λ i h. ⊎-elim (λ z. inl z) (λ w. inr (w .1)) (so .0 i h)),
+  )
+
+  -- what one seat's run makes of the table: its own state, and the others'
+  seat-own : (i r : ℕ) (o o′ : List ℕ) → 144 * i + 144 ≤ length o → partNo 144 o i ≡ partNo 144 states i
+      → SeatRan b text slash n t row whom type (getD arcs i 0) flags o o′ i r → (r ≡ number i) × (partNo 144 o′ i ≡ state i)
+  seat-own i r o o′ long same run = (rw (← same) (run .0), go (eqb r 0) refl)
+    where
+      go : (z : Bool) → eqb r 0 ≡ z → partNo 144 o′ i ≡ state i
+      go true e =
+          let w = run .2 (eqb-true r 0 e) in
+          rw (w .2, part-own o (w .0) (144 * i) 144 (omega arith) (w .1), ← same) (w .3)
+      go false e =
+          let d = eqb-false r 0 e in
+          rw (run .1 d) same
+          ∙ sym (fault-state b text slash n t row whom type (getD arcs i 0) (partNo 18 flags i) (partNo 144 states i)
+          (λ z. d (run .0 ∙ rw same z)))
+
+  seat-other : (i r k : ℕ) (o o′ : List ℕ) → 144 * i + 144 ≤ length o → (k ≡ i → ⊥)
+      → SeatRan b text slash n t row whom type (getD arcs i 0) flags o o′ i r → partNo 144 o′ k ≡ partNo 144 o k
+  seat-other i r k o o′ long d run = go (eqb r 0) refl
+    where
+      go : (z : Bool) → eqb r 0 ≡ z → partNo 144 o′ k ≡ partNo 144 o k
+      go true e = let w = run .2 (eqb-true r 0 e) in rw (w .2) (part-other o (w .0) i k (omega arith) (w .1) d)
+      go false e = rw (run .1 (eqb-false r 0 e))
+
+  -- the first i seats were run, with the least number l, and the others are as they were
+  abbrev pub SeatsSoFar : ℕ → List ℕ → ℕ → Type 0
+  SeatsSoFar i o l =
+      ((k : ℕ) → k < i → partNo 144 o k ≡ entryState b text slash n t row whom type (getD arcs k 0) (partNo 18 flags k) (partNo 144 states k))
+      × ((k : ℕ) → i ≤ k → partNo 144 o k ≡ partNo 144 states k)
+      × LeastOf (λ k. entryNumber b text slash n t row whom type (getD arcs k 0) (partNo 18 flags k) (partNo 144 states k)) i l
+
+  pub seats-none : SeatsSoFar 0 states 0
+  seats-none = (λ i h. absurd (omega arith), λ k h. refl, least-none number)
+
+  pub seats-more : (i l r : ℕ) (o o′ : List ℕ) → 144 * i + 144 ≤ length o → SeatsSoFar i o l
+      → SeatRan b text slash n t row whom type (getD arcs i 0) flags o o′ i r → SeatsSoFar (i + 1) o′ (lesser l r)
+  seats-more i l r o o′ long so run = (
+    λ k h. go k h (eqb k i) refl,
+    λ k h. seat-other i r k o o′ long (λ e. omega arith) run ∙ so .1 k (omega arith),
+    least-more number i l r (own .0) (so .2),
+  )
+    where
+      own : (r ≡ number i) × (partNo 144 o′ i ≡ state i)
+      own = seat-own i r o o′ long (so .1 i (omega arith)) run
+
+      go : (k : ℕ) → k < i + 1 → (z : Bool) → eqb k i ≡ z → partNo 144 o′ k ≡ state k
+      go k h true e = rw (eqb-true k i e) (own .1)
+      go k h false e = let d = eqb-false k i e in seat-other i r k o o′ long d run ∙ so .0 k (omega arith)
 
   -- a seat whose arc the entry does not mean
-  pub seats-pass : (i : ℕ) (o : List ℕ) → meantFor b text slash n (headAt t row) whom type (getD arcs i 0) ≡ false → SeatsSoFar i o → SeatsSoFar (i + 1) o
-  seats-pass i o un so = (λ k h. go k h (eqb k i) refl, λ k h. so .1 k (omega arith))
+  pub seats-pass : (i l : ℕ) (o : List ℕ) → meantFor b text slash n (headAt t row) whom type (getD arcs i 0) ≡ false → SeatsSoFar i o l
+      → SeatsSoFar (i + 1) o l
+  seats-pass i l o un so = (
+    λ k h. go k h (eqb k i) refl,
+    λ k h. so .1 k (omega arith),
+    least-pass number i l (so .2) (passed-number b text slash n t row whom type (getD arcs i 0) (partNo 18 flags i) (partNo 144 states i) un),
+  )
     where
-      go : (k : ℕ) → k < i + 1 → (z : Bool) → eqb k i ≡ z
-          → (entryNumber b text slash n t row whom type (getD arcs k 0) (partNo 18 flags k) (partNo 144 states k) ≡ 0)
-          × (partNo 144 o k ≡ entryState b text slash n t row whom type (getD arcs k 0) (partNo 18 flags k) (partNo 144 states k))
+      go : (k : ℕ) → k < i + 1 → (z : Bool) → eqb k i ≡ z → partNo 144 o k ≡ state k
       go k h true e =
-          rw (eqb-true k i e) (
-            passed-number b text slash n t row whom type (getD arcs i 0) (partNo 18 flags i) (partNo 144 states i) un,
-            so .1 i (omega arith) ∙ sym (passed-state b text slash n t row whom type (getD arcs i 0) (partNo 18 flags i) (partNo 144 states i) un),
-          )
-      go k h false e =
-          let d = eqb-false k i e in
-          so .0 k (omega arith)
+          rw (eqb-true k i e)
+          (so .1 i (omega arith)
+          ∙ sym (passed-state b text slash n t row whom type (getD arcs i 0) (partNo 18 flags i) (partNo 144 states i) un))
+      go k h false e = let d = eqb-false k i e in so .0 k (omega arith)
 
-  -- an entry of a kind that fits none
+  pub seats-end : (i count l : ℕ) (o : List ℕ) → i ≡ count → SeatsSoFar i o l → EntryRun b text slash n t row whom type arcs flags states count o l
+  seats-end i count l o e so = let w = rw e at so in entry-run count l o (w .0) (w .2)
+
+  -- an entry that means none
+  seats-unmeant : (count : ℕ) → ((i : ℕ) → i < count → meantFor b text slash n (headAt t row) whom type (getD arcs i 0) ≡ false)
+      → EntryRun b text slash n t row whom type arcs flags states count states 0
+  seats-unmeant count none =
+      entry-run count 0 states
+      (λ k h. sym (passed-state b text slash n t row whom type (getD arcs k 0) (partNo 18 flags k) (partNo 144 states k) (none k h)))
+      (least-all number count (λ k h. passed-number b text slash n t row whom type (getD arcs k 0) (partNo 18 flags k) (partNo 144 states k) (none k h)))
+
+  -- one of a kind that fits none
   pub seats-unwanted : (count : ℕ) → NoneFits b (headAt t row .kind) arcs count → EntryRan b text slash n t row whom type arcs flags states count states
-  seats-unwanted count none i h =
-      let un = unmeant b text slash n (headAt t row) (getD arcs i 0) (none i h) whom type in (
-        passed-number b text slash n t row whom type (getD arcs i 0) (partNo 18 flags i) (partNo 144 states i) un,
-        sym (passed-state b text slash n t row whom type (getD arcs i 0) (partNo 18 flags i) (partNo 144 states i) un),
-      )
+  seats-unwanted count none =
+      seats-unmeant count (λ i h. unmeant b text slash n (headAt t row) (getD arcs i 0) (none i h) whom type) .0 refl
 
--- 6. One entry more
+  -- one that means at most the arc of seat s, which was run
+  seats-only : (count s r : ℕ) (o : List ℕ) → s < count → 144 * count ≤ length states
+      → ((i : ℕ) → i < count → (i ≡ s → ⊥) → meantFor b text slash n (headAt t row) whom type (getD arcs i 0) ≡ false)
+      → SeatRan b text slash n t row whom type (getD arcs s 0) flags states o s r
+      → EntryRun b text slash n t row whom type arcs flags states count o r
+  seats-only count s r o h long none run =
+      entry-run count r o (λ k l. go k l (eqb k s) refl)
+      (rw (own .0) (least-one number count s h (λ k l d. passed-number b text slash n t row whom type (getD arcs k 0) (partNo 18 flags k) (partNo 144 states k) (none k l d))))
+    where
+      own : (r ≡ number s) × (partNo 144 o s ≡ state s)
+      own = seat-own s r states o (omega arith) refl run
+
+      go : (k : ℕ) → k < count → (z : Bool) → eqb k s ≡ z → partNo 144 o k ≡ state k
+      go k l true e = rw (eqb-true k s e) (own .1)
+      go k l false e =
+          let d = eqb-false k s e in
+          seat-other s r k states o (omega arith) d run
+          ∙ sym (passed-state b text slash n t row whom type (getD arcs k 0) (partNo 18 flags k) (partNo 144 states k) (none k l d))
+
+-- the seat that a search gives
+module _ (b text : List ℕ) (slash : Bool) (n : ℕ) (t : List ℕ) (row p : ℕ) (type arcs flags states : List ℕ) (count s : ℕ)
+    (only : OnlySeat b text slash n (headAt t row) p type arcs count s) where
+  -- is none
+  pub found-none : count ≤ s → EntryRun b text slash n t row (One p) type arcs flags states count states 0
+  found-none h = seats-unmeant b text slash n t row (One p) type arcs flags states count (λ i l. only .1 i l (λ e. omega arith))
+
+  -- or was run
+  pub found-run : (r : ℕ) (o : List ℕ) → s < count → 144 * count ≤ length states
+      → SeatRan b text slash n t row (One p) type (getD arcs s 0) flags states o s r
+      → EntryRun b text slash n t row (One p) type arcs flags states count o r
+  found-run r o h long run = seats-only b text slash n t row (One p) type arcs flags states count s r o h long (only .1) run
+
+-- 7. One entry more
 
 module _ (b text : List ℕ) (slash : Bool) (n m f : ℕ) (side : Bool) (t : List ℕ) (first some : ℕ) (whom : Whom) (type : List ℕ) (event : ℕ)
     (arcs flags states : List ℕ) (count : ℕ) where
@@ -319,26 +435,54 @@ module _ (b text : List ℕ) (slash : Bool) (n m f : ℕ) (side : Bool) (t : Lis
       run-more b text slash n m f side t first some whom type (getD arcs i 0) (partNo 18 flags i) (partNo 144 states i) event k (partNo 144 o i) (partNo 144 o′ i) l
       (so i h) (run i h .0) (run i h .1)
 
-  pub entries-end : (o : List ℕ) → EntriesSoFar some o → EntriesSeatsRan b text slash n m f side t first some whom type event arcs flags states count o
+  -- entry number k has a fault
+  pub entries-stop : (k r : ℕ) (o o′ : List ℕ) → k < some → EntriesSoFar k o → (r ≡ 0 → ⊥)
+      → EntryFault b text slash n t (28 * (first + k)) whom type arcs flags o count r
+      → EntriesSeatsRan b text slash n m f side t first some whom type event arcs flags states count o′
+      (least.Fault (event + k) r (getD t (28 * (first + k) + 2) 0) side)
+  entries-stop k r o o′ l so d fault = (
+    (let i = fault .0 .0 in
+        let h = fault .0 .1 in (
+          i,
+          h,
+          run-stop b text slash n m f side t first some whom type (getD arcs i 0) (partNo 18 flags i) (partNo 144 states i) event k (partNo 144 o i)
+              (partNo 144 o′ i) r l (so i h) (sym (fault .0 .2)) d,
+        )),
+    λ i h. late-stop b text slash n m f side t first some whom type (getD arcs i 0) (partNo 18 flags i) (partNo 144 states i) event k (partNo 144 o i) r l
+        (so i h) (fault .1 i h),
+  )
+
+  pub entries-end : (o : List ℕ) → EntriesSoFar some o
+      → EntriesSeatsRan b text slash n m f side t first some whom type event arcs flags states count o least.Nothing
   entries-end o so i h =
       run-end b text slash n m f side t first some whom type (getD arcs i 0) (partNo 18 flags i) (partNo 144 states i) event (partNo 144 o i) (so i h)
 
--- 7. A cell
+-- 8. A cell
 
 module _ (b text : List ℕ) (slash : Bool) (n m f : ℕ) (side : Bool) (cells : List ℕ) (row : ℕ) (entries : List ℕ) (first event : ℕ)
     (arcs flags states : List ℕ) (count : ℕ) where
   -- its entries were run
-  pub seats-ran : (whom : Whom) (states′ : List ℕ) → whomOf b text slash n (cellAt cells row) ≡ whom
+  pub seats-ran : (whom : Whom) (states′ : List ℕ) (r : Least) → whomOf b text slash n (cellAt cells row) ≡ whom
       → EntriesSeatsRan b text slash n m f side entries first (cellAt cells row .entries) whom
-      (partOf text (cellAt cells row .typefrom) (cellAt cells row .typeto)) (event + 1) arcs flags states count states′
-      → SeatsRan b text slash n m f side cells row entries first event arcs flags states count states′
-  seats-ran whom states′ e run i h =
+      (partOf text (cellAt cells row .typefrom) (cellAt cells row .typeto)) (event + 1) arcs flags states count states′ r
+      → SeatsRan b text slash n m f side cells row entries first event arcs flags states count states′ r
+  seats-ran whom states′ least.Nothing e run = λ i h.
       cell-ran b text slash n m f side cells row entries first (getD arcs i 0) (partNo 18 flags i) (partNo 144 states i) event (partNo 144 states′ i) whom
       least.Nothing e (run i h)
+  seats-ran whom states′ (least.Fault ev x p s) e run = (
+    (let i = run .0 .0 in (
+      i,
+      run .0 .1,
+      cell-ran b text slash n m f side cells row entries first (getD arcs i 0) (partNo 18 flags i) (partNo 144 states i) event
+          (partNo 144 states′ i) whom (least.Fault ev x p s) e (run .0 .2),
+    )),
+    λ i h. cell-late b text slash n m f side cells row entries first (getD arcs i 0) (partNo 18 flags i) (partNo 144 states i) event whom ev x e
+        (run .1 i h),
+  )
 
   -- it can touch none
   pub seats-skipped : eqb (cellAt cells row .sort) 2 ≡ false → NoneNear b text slash (cellAt cells row .pathfrom) (cellAt cells row .pathto) arcs count
-      → SeatsRan b text slash n m f side cells row entries first event arcs flags states count states
+      → SeatsRan b text slash n m f side cells row entries first event arcs flags states count states least.Nothing
   seats-skipped s none i h =
       cell-skipped b text slash n m f side cells row entries first (getD arcs i 0) (partNo 18 flags i) (partNo 144 states i) event s (none i h)
 
@@ -347,7 +491,7 @@ module _ (b text : List ℕ) (slash : Bool) (n m f : ℕ) (side : Bool) (cells :
       → NoneNear b text slash (cellAt cells row .pathfrom) (cellAt cells row .pathto) arcs count
   far-none x a common i h = far-off b text slash (cellAt cells row .pathfrom) (cellAt cells row .pathto) (getD arcs i 0) x a (common i h)
 
--- 8. One cell more
+-- 9. One cell more
 
 module _ (b text : List ℕ) (slash : Bool) (n m f : ℕ) (cells : List ℕ) (from to : ℕ) (entries : List ℕ) (event : ℕ) (arcs flags states : List ℕ)
     (count : ℕ) where
@@ -362,12 +506,29 @@ module _ (b text : List ℕ) (slash : Bool) (n m f : ℕ) (cells : List ℕ) (fr
 
   pub all-more : (k : ℕ) (o o′ : List ℕ) (first next next′ : ℕ) → from ≤ k → k < to → first ≡ entriesBefore cells k
       → next′ ≡ next + (1 + getD cells (7 * k + 6) 0) → AllSoFar k o next
-      → SeatsRan b text slash n m f false cells (7 * k) entries first next arcs flags o count o′ → AllSoFar (suc k) o′ next′
+      → SeatsRan b text slash n m f false cells (7 * k) entries first next arcs flags o count o′ least.Nothing → AllSoFar (suc k) o′ next′
   all-more k o o′ first next next′ u v e p so run i h =
       cells-more b text slash n m f cells from to entries (getD arcs i 0) (partNo 18 flags i) (partNo 144 states i) event k (partNo 144 o i) (partNo 144 o′ i)
       first next next′ u v e p (so i h) (run i h)
 
+  -- cell number k has a fault
+  pub all-stop : (k : ℕ) (o o′ : List ℕ) (first next ev x place : ℕ) (side : Bool) → from ≤ k → k < to → first ≡ entriesBefore cells k
+      → AllSoFar k o next
+      → SeatsRan b text slash n m f false cells (7 * k) entries first next arcs flags o count o′ (least.Fault ev x place side)
+      → CellsSeatsRan b text slash n m f cells from to entries event arcs flags states count o′ (least.Fault ev x place side)
+  all-stop k o o′ first next ev x place side u v e so run = (
+    (let i = run .0 .0 in
+        let h = run .0 .1 in (
+          i,
+          h,
+          cells-stop b text slash n m f cells from to entries (getD arcs i 0) (partNo 18 flags i) (partNo 144 states i) event k (partNo 144 o i)
+              (partNo 144 o′ i) first next ev x place side u v e (so i h) (run .0 .2),
+        )),
+    λ i h. cells-late b text slash n m f cells from to entries (getD arcs i 0) (partNo 18 flags i) (partNo 144 states i) event k (partNo 144 o i) first next
+        ev x u v e (so i h) (run .1 i h),
+  )
+
   pub all-end : (k : ℕ) (o : List ℕ) (next : ℕ) → to ≤ k → (from ≤ to → k ≤ to) → AllSoFar k o next
-      → CellsSeatsRan b text slash n m f cells from to entries event arcs flags states count o
+      → CellsSeatsRan b text slash n m f cells from to entries event arcs flags states count o least.Nothing
   all-end k o next u v so i h =
       cells-end b text slash n m f cells from to entries (getD arcs i 0) (partNo 18 flags i) (partNo 144 states i) event k (partNo 144 o i) next u v (so i h)

@@ -8,13 +8,17 @@ ghost use lib.Seq.{paste};
 ghost use lib.Dec.{eqb};
 ghost use Rattle.classes.specs.Choice.{pick};
 ghost use Rattle.names.specs.Name.{canon, partOf};
-ghost use Rattle.sheetlaws.specs.Sheet.{arNext};
-ghost use Rattle.sheet.specs.Find.{InstanceSearch};
+ghost use Rattle.sheetlaws.specs.Sheet.{inEnd, arNext};
+ghost use Rattle.sheet.specs.Find.{InstanceSearch, ArcSearch};
+ghost use Rattle.views.specs.Views.{headAt};
 ghost use Rattle.annotate.specs.Cells.{entriesBefore};
 ghost use Rattle.annotate.specs.Whom.{InSheet};
-ghost use Rattle.seats.specs.Seats.{agree, Ends, There, Common, NoneNear, kindFits, NoneFits, SeatRan, EntryRan, EntriesSeatsRan, SeatsRan, CellsSeatsRan};
+ghost use Rattle.annotate.specs.declared.Whom.the-variants.{One};
+ghost use Rattle.findseat.specs.Findseat.{InOrder};
+ghost use Rattle.seats.specs.Seats.{agree, Ends, There, Common, NoneNear, kindFits, NoneFits, SeatRan, EntryRun, EntriesSeatsRan, SeatsRan, CellsSeatsRan};
 use annotate::Whom;
 use apply::Plan;
+use arcrun::Least;
 use grammar::Cell;
 
 const EVERY: u8 = 2;
@@ -24,6 +28,9 @@ const SAME: u8 = 1;
 const IOPATH: u8 = 1;
 
 const DEVICE: u8 = 4;
+
+// Where there are more seats than these, an entry's arc is looked up, and not each seat asked.
+const FEW: usize = 64;
 
 // The bytes of a seat's flags and of its values.
 const FLAGS: usize = 18;
@@ -91,8 +98,8 @@ fn agreeing_ends(start: &[u8], arc: usize, name: &[u8]) -> usize
 }
 
 // A name with which the ends of all seated arcs agree: the longest front part of the first one's first end.
-pub fn common_front<'a>(start: &'a [u8], arcs: &[usize; 64], count: usize) -> &'a [u8]
-    requires { ⌜ (There (now start) (now arcs) count) × (count ≤ 64) ⌝ }
+pub fn common_front<'a>(start: &'a [u8], arcs: &[usize; 4096], count: usize) -> &'a [u8]
+    requires { ⌜ (There (now start) (now arcs) count) × (count ≤ 4096) ⌝ }
     ensures { λ r. ⌜ Common (now (start .entry)) (now (arcs .entry)) count (now r) ⌝ }
 {
     if count == 0 {
@@ -134,7 +141,7 @@ fn is_far<'a>(
     !agrees(common, path, slash)
 }
 
-// Whether a cell can touch one of the seated arcs: it has no path of its own, or that is a front part of an end.
+// Whether a cell can touch one of the seated arcs: it has no path of its own, or that is a front part of an end. Many are not asked.
 fn is_near<'a>(
     start: &[u8],
     file: &'a [u8],
@@ -142,14 +149,17 @@ fn is_near<'a>(
     side: bool,
     slash: bool,
     cell: Cell,
-    arcs: &[usize; 64],
+    arcs: &[usize; 4096],
     count: usize,
 ) -> bool
-    requires { ⌜ (There (now start) (now arcs) count) × (count ≤ 64) ⌝ }
+    requires { ⌜ (There (now start) (now arcs) count) × (count ≤ 4096) ⌝ }
     ensures { λ r. ⌜ (r ≡ false → (eqb (cell .sort) 2 ≡ false)
         × NoneNear (now (start .entry)) (pick side (now (incoming .entry)) (now (file .entry))) slash (cell .pathfrom) (cell .pathto) (now (arcs .entry)) count) ⌝ }
 {
     if cell.sort == EVERY {
+        return true;
+    }
+    if FEW < count {
         return true;
     }
     let mut i = 0;
@@ -181,11 +191,14 @@ fn fits(kind: u8, other: u8) -> bool
     other == kind
 }
 
-// Whether an entry of a kind can mean one of the seated arcs.
-fn is_wanted(start: &[u8], arcs: &[usize; 64], count: usize, kind: u8) -> bool
-    requires { ⌜ (There (now start) (now arcs) count) × (count ≤ 64) ⌝ }
+// Whether an entry of a kind can mean one of the seated arcs. Many are not asked.
+fn is_wanted(start: &[u8], arcs: &[usize; 4096], count: usize, kind: u8) -> bool
+    requires { ⌜ (There (now start) (now arcs) count) × (count ≤ 4096) ⌝ }
     ensures { λ r. ⌜ (r ≡ false → NoneFits (now (start .entry)) kind (now (arcs .entry)) count) ⌝ }
 {
+    if FEW < count {
+        return true;
+    }
     let mut i = 0;
     while i < count {
         if fits(kind, sheet::arc_kind(start, arcs[i])) {
@@ -196,7 +209,7 @@ fn is_wanted(start: &[u8], arcs: &[usize; 64], count: usize, kind: u8) -> bool
     false
 }
 
-// Takes the values of one seat through an entry; false where there is a fault.
+// Takes the values of one seat through an entry: its refusal, or 0 and they are stored.
 fn run_seat<'a>(
     start: &[u8],
     file: &'a [u8],
@@ -212,12 +225,12 @@ fn run_seat<'a>(
     flags: &[u8],
     states: &mut [u8],
     seat: usize,
-) -> bool
+) -> u8
     requires { ⌜ (InstanceSearch (now start) (plan .instances) 12 (now places)) × (arNext (now start) arc ≤ length (now start)) × (InSheet (now start) whom)
         × (row + 28 ≤ length (now entries)) × (18 * seat + 18 ≤ length (now flags)) × (144 * seat + 144 ≤ length (now states)) ⌝ }
     ensures { λ r. ⌜ (length (now (states .exit)) ≡ length (now (states .entry)))
-        × (r ≡ true → SeatRan (now (start .entry)) (pick side (now (incoming .entry)) (now (file .entry))) (plan .slash) (plan .instances) (now (entries .entry))
-        row whom (now (celltype .entry)) arc (now (flags .entry)) (now (states .entry)) (now (states .exit)) seat) ⌝ }
+        × (SeatRan (now (start .entry)) (pick side (now (incoming .entry)) (now (file .entry))) (plan .slash) (plan .instances) (now (entries .entry))
+        row whom (now (celltype .entry)) arc (now (flags .entry)) (now (states .entry)) (now (states .exit)) seat r) ⌝ }
 {
     let mut mask = [0u8; 18];
     load(flags, FLAGS * seat, &mut mask);
@@ -238,15 +251,14 @@ fn run_seat<'a>(
         &mask,
         &mut state,
     );
-    if number != 0 {
-        return false;
+    if number == 0 {
+        store(states, VALUES * seat, &state);
     }
-    store(states, VALUES * seat, &state);
-    true
+    number
 }
 
-// Takes the values of all seats whose arc the entry means through it.
-fn run_entry<'a>(
+// Takes the values of all seats whose arc the entry means through it, each asked: the least refusal, or 0.
+fn run_all<'a>(
     start: &[u8],
     file: &'a [u8],
     incoming: &'a [u8],
@@ -257,18 +269,19 @@ fn run_entry<'a>(
     row: usize,
     whom: Whom,
     celltype: &[u8],
-    arcs: &[usize; 64],
+    arcs: &[usize; 4096],
     count: usize,
     flags: &[u8],
     states: &mut [u8],
-) -> bool
+) -> u8
     requires { ⌜ (InstanceSearch (now start) (plan .instances) 12 (now places)) × (There (now start) (now arcs) count) × (InSheet (now start) whom)
-        × (row + 28 ≤ length (now entries)) × (count ≤ 64) × (18 * count ≤ length (now flags)) × (144 * count ≤ length (now states)) ⌝ }
+        × (row + 28 ≤ length (now entries)) × (count ≤ 4096) × (18 * count ≤ length (now flags)) × (144 * count ≤ length (now states)) ⌝ }
     ensures { λ r. ⌜ (length (now (states .exit)) ≡ length (now (states .entry)))
-        × (r ≡ true → EntryRan (now (start .entry)) (pick side (now (incoming .entry)) (now (file .entry))) (plan .slash) (plan .instances) (now (entries .entry))
-        row whom (now (celltype .entry)) (now (arcs .entry)) (now (flags .entry)) (now (states .entry)) count (now (states .exit))) ⌝ }
+        × (EntryRun (now (start .entry)) (pick side (now (incoming .entry)) (now (file .entry))) (plan .slash) (plan .instances) (now (entries .entry))
+        row whom (now (celltype .entry)) (now (arcs .entry)) (now (flags .entry)) (now (states .entry)) count (now (states .exit)) r) ⌝ }
 {
     let entry = views::head_at(entries, row);
+    let mut least = 0;
     let mut i = 0;
     while i < count {
         if arcrun::is_meant(
@@ -283,7 +296,7 @@ fn run_entry<'a>(
             celltype,
             arcs[i],
         ) {
-            if !run_seat(
+            let number = run_seat(
                 start,
                 file,
                 incoming,
@@ -298,13 +311,139 @@ fn run_entry<'a>(
                 flags,
                 states,
                 i,
-            ) {
-                return false;
-            }
+            );
+            least = amounts::lesser_of(least, number);
         }
         i += 1;
     }
-    true
+    least
+}
+
+// Takes the values of the seat whose arc an entry other than DEVICE means in one instance through it, by search: its refusal, or 0.
+fn run_found<'a>(
+    start: &[u8],
+    file: &'a [u8],
+    incoming: &'a [u8],
+    side: bool,
+    plan: Plan,
+    places: &[u32; 4096],
+    marks: &[u32; 4096],
+    entries: &[u64],
+    row: usize,
+    instance: usize,
+    celltype: &[u8],
+    arcs: &[usize; 4096],
+    count: usize,
+    flags: &[u8],
+    states: &mut [u8],
+) -> u8
+    requires { ⌜ (InstanceSearch (now start) (plan .instances) 12 (now places)) × (ArcSearch (now start) (plan .arcs) (plan .first) (now marks))
+        × (InOrder (now start) (plan .arcs) (plan .first) (now arcs) count) × (inEnd (now start) instance ≤ length (now start))
+        × (row + 28 ≤ length (now entries)) × (count ≤ 4096) × (18 * count ≤ length (now flags)) × (144 * count ≤ length (now states))
+        × (eqb (headAt (now entries) row .kind) 4 ≡ false) ⌝ }
+    ensures { λ r. ⌜ (length (now (states .exit)) ≡ length (now (states .entry)))
+        × (EntryRun (now (start .entry)) (pick side (now (incoming .entry)) (now (file .entry))) (plan .slash) (plan .instances) (now (entries .entry))
+        row (One instance) (now (celltype .entry)) (now (arcs .entry)) (now (flags .entry)) (now (states .entry)) count (now (states .exit)) r) ⌝ }
+{
+    let entry = views::head_at(entries, row);
+    let seat = findseat::find_seat(
+        start,
+        file,
+        incoming,
+        side,
+        plan,
+        marks,
+        entry,
+        instance,
+        arcs,
+        count,
+    );
+    if count <= seat {
+        return 0;
+    }
+    let arc = arcs[seat];
+    let whom = Whom::One(instance);
+    run_seat(
+        start,
+        file,
+        incoming,
+        side,
+        plan,
+        places,
+        entries,
+        row,
+        whom,
+        celltype,
+        arc,
+        flags,
+        states,
+        seat,
+    )
+}
+
+// Takes the values of all seats whose arc the entry means through it: the least refusal, or 0. Where there are many, the arc is looked up.
+fn run_entry<'a>(
+    start: &[u8],
+    file: &'a [u8],
+    incoming: &'a [u8],
+    side: bool,
+    plan: Plan,
+    places: &[u32; 4096],
+    marks: &[u32; 4096],
+    entries: &[u64],
+    row: usize,
+    whom: Whom,
+    celltype: &[u8],
+    arcs: &[usize; 4096],
+    count: usize,
+    flags: &[u8],
+    states: &mut [u8],
+) -> u8
+    requires { ⌜ (InstanceSearch (now start) (plan .instances) 12 (now places)) × (ArcSearch (now start) (plan .arcs) (plan .first) (now marks))
+        × (InOrder (now start) (plan .arcs) (plan .first) (now arcs) count) × (InSheet (now start) whom)
+        × (row + 28 ≤ length (now entries)) × (count ≤ 4096) × (18 * count ≤ length (now flags)) × (144 * count ≤ length (now states)) ⌝ }
+    ensures { λ r. ⌜ (length (now (states .exit)) ≡ length (now (states .entry)))
+        × (EntryRun (now (start .entry)) (pick side (now (incoming .entry)) (now (file .entry))) (plan .slash) (plan .instances) (now (entries .entry))
+        row whom (now (celltype .entry)) (now (arcs .entry)) (now (flags .entry)) (now (states .entry)) count (now (states .exit)) r) ⌝ }
+{
+    let entry = views::head_at(entries, row);
+    if FEW < count && entry.kind != DEVICE {
+        if let Whom::One(instance) = whom {
+            return run_found(
+                start,
+                file,
+                incoming,
+                side,
+                plan,
+                places,
+                marks,
+                entries,
+                row,
+                instance,
+                celltype,
+                arcs,
+                count,
+                flags,
+                states,
+            );
+        }
+    }
+    run_all(
+        start,
+        file,
+        incoming,
+        side,
+        plan,
+        places,
+        entries,
+        row,
+        whom,
+        celltype,
+        arcs,
+        count,
+        flags,
+        states,
+    )
 }
 
 // Takes them through so many entries of one cell, from entry number `first` on; the first is an event's number.
@@ -315,36 +454,40 @@ fn run_entries<'a>(
     side: bool,
     plan: Plan,
     places: &[u32; 4096],
+    marks: &[u32; 4096],
     entries: &[u64],
     first: usize,
     some: usize,
     whom: Whom,
     celltype: &[u8],
-    arcs: &[usize; 64],
+    arcs: &[usize; 4096],
     count: usize,
     flags: &[u8],
     states: &mut [u8],
     event: usize,
-) -> bool
-    requires { ⌜ (InstanceSearch (now start) (plan .instances) 12 (now places)) × (There (now start) (now arcs) count) × (InSheet (now start) whom)
-        × (28 * (first + some) ≤ length (now entries)) × (count ≤ 64) × (18 * count ≤ length (now flags)) × (144 * count ≤ length (now states)) ⌝ }
+) -> Least
+    requires { ⌜ (InstanceSearch (now start) (plan .instances) 12 (now places)) × (ArcSearch (now start) (plan .arcs) (plan .first) (now marks))
+        × (InOrder (now start) (plan .arcs) (plan .first) (now arcs) count) × (InSheet (now start) whom)
+        × (28 * (first + some) ≤ length (now entries)) × (count ≤ 4096) × (18 * count ≤ length (now flags)) × (144 * count ≤ length (now states))
+        × (event + some < 18446744073709551616) ⌝ }
     ensures { λ r. ⌜ (length (now (states .exit)) ≡ length (now (states .entry)))
-        × (r ≡ true → EntriesSeatsRan (now (start .entry)) (pick side (now (incoming .entry)) (now (file .entry))) (plan .slash) (plan .instances) (plan .arcs)
+        × (EntriesSeatsRan (now (start .entry)) (pick side (now (incoming .entry)) (now (file .entry))) (plan .slash) (plan .instances) (plan .arcs)
         (plan .first) side (now (entries .entry)) first some whom (now (celltype .entry)) event (now (arcs .entry)) (now (flags .entry))
-        (now (states .entry)) count (now (states .exit))) ⌝ }
+        (now (states .entry)) count (now (states .exit)) r) ⌝ }
 {
     let mut k = 0;
     while k < some {
         let row = 28 * (first + k);
         let entry = views::head_at(entries, row);
         if is_wanted(start, arcs, count, entry.kind) {
-            if !run_entry(
+            let number = run_entry(
                 start,
                 file,
                 incoming,
                 side,
                 plan,
                 places,
+                marks,
                 entries,
                 row,
                 whom,
@@ -353,16 +496,22 @@ fn run_entries<'a>(
                 count,
                 flags,
                 states,
-            ) {
-                return false;
+            );
+            if number != 0 {
+                return Least::Fault {
+                    event: event + k,
+                    number: number,
+                    place: entries[row + 2] as usize,
+                    incoming: side,
+                };
             }
         }
         k += 1;
     }
-    true
+    Least::Nothing
 }
 
-// Takes the values of all seats through a cell, whose keyword is an event's number; false where there is a fault.
+// Takes the values of all seats through a cell, whose keyword is an event's number: the least fault of them all.
 pub fn run_seats<'a>(
     start: &[u8],
     file: &'a [u8],
@@ -370,32 +519,33 @@ pub fn run_seats<'a>(
     side: bool,
     plan: Plan,
     places: &[u32; 4096],
+    marks: &[u32; 4096],
     cells: &[u64],
     row: usize,
     entries: &[u64],
     first: usize,
     common: &[u8],
-    arcs: &[usize; 64],
+    arcs: &[usize; 4096],
     count: usize,
     flags: &[u8],
     states: &mut [u8],
     event: usize,
-) -> bool
-    requires { ⌜ (InstanceSearch (now start) (plan .instances) 12 (now places)) × (There (now start) (now arcs) count)
-        × (Common (now start) (now arcs) count (now common)) × (count ≤ 64) × (18 * count ≤ length (now flags)) × (144 * count ≤ length (now states))
+) -> Least
+    requires { ⌜ (InstanceSearch (now start) (plan .instances) 12 (now places)) × (ArcSearch (now start) (plan .arcs) (plan .first) (now marks))
+        × (InOrder (now start) (plan .arcs) (plan .first) (now arcs) count) × (Common (now start) (now arcs) count (now common)) × (count ≤ 4096) × (18 * count ≤ length (now flags)) × (144 * count ≤ length (now states))
         × (row + 7 ≤ length (now cells)) × (28 * (first + getD (now cells) (row + 6) 0) ≤ length (now entries))
         × (event + 1 + getD (now cells) (row + 6) 0 < 18446744073709551616) ⌝ }
     ensures { λ r. ⌜ (length (now (states .exit)) ≡ length (now (states .entry)))
-        × (r ≡ true → SeatsRan (now (start .entry)) (pick side (now (incoming .entry)) (now (file .entry))) (plan .slash) (plan .instances) (plan .arcs)
+        × (SeatsRan (now (start .entry)) (pick side (now (incoming .entry)) (now (file .entry))) (plan .slash) (plan .instances) (plan .arcs)
         (plan .first) side (now (cells .entry)) row (now (entries .entry)) first event (now (arcs .entry)) (now (flags .entry)) (now (states .entry))
-        count (now (states .exit))) ⌝ }
+        count (now (states .exit)) r) ⌝ }
 {
     let cell = views::cell_at(cells, row);
     if is_far(file, incoming, side, plan.slash, cell, common) {
-        return true;
+        return Least::Nothing;
     }
     if !is_near(start, file, incoming, side, plan.slash, cell, arcs, count) {
-        return true;
+        return Least::Nothing;
     }
     let celltype = names::name_of(file, incoming, side, cell.typefrom, cell.typeto);
     let whom = annotate::whom_of(
@@ -412,6 +562,7 @@ pub fn run_seats<'a>(
         side,
         plan,
         places,
+        marks,
         entries,
         first,
         cell.entries,
@@ -432,38 +583,40 @@ pub fn run_cells<'a>(
     incoming: &'a [u8],
     plan: Plan,
     places: &[u32; 4096],
+    marks: &[u32; 4096],
     cells: &[u64],
     from: usize,
     to: usize,
     entries: &[u64],
     before: usize,
     common: &[u8],
-    arcs: &[usize; 64],
+    arcs: &[usize; 4096],
     count: usize,
     flags: &[u8],
     states: &mut [u8],
     begin: usize,
-) -> bool
-    requires { ⌜ (InstanceSearch (now start) (plan .instances) 12 (now places)) × (There (now start) (now arcs) count)
-        × (Common (now start) (now arcs) count (now common)) × (count ≤ 64) × (18 * count ≤ length (now flags)) × (144 * count ≤ length (now states))
+) -> Least
+    requires { ⌜ (InstanceSearch (now start) (plan .instances) 12 (now places)) × (ArcSearch (now start) (plan .arcs) (plan .first) (now marks))
+        × (InOrder (now start) (plan .arcs) (plan .first) (now arcs) count) × (Common (now start) (now arcs) count (now common)) × (count ≤ 4096) × (18 * count ≤ length (now flags)) × (144 * count ≤ length (now states))
         × (7 * to ≤ length (now cells)) × (before ≡ entriesBefore (now cells) from) × (28 * entriesBefore (now cells) to ≤ length (now entries))
         × (begin + (to + entriesBefore (now cells) to) < 18446744073709551616) ⌝ }
     ensures { λ r. ⌜ (length (now (states .exit)) ≡ length (now (states .entry)))
-        × (r ≡ true → CellsSeatsRan (now (start .entry)) (now (file .entry)) (plan .slash) (plan .instances) (plan .arcs) (plan .first) (now (cells .entry)) from to
-        (now (entries .entry)) begin (now (arcs .entry)) (now (flags .entry)) (now (states .entry)) count (now (states .exit))) ⌝ }
+        × (CellsSeatsRan (now (start .entry)) (now (file .entry)) (plan .slash) (plan .instances) (plan .arcs) (plan .first) (now (cells .entry)) from to
+        (now (entries .entry)) begin (now (arcs .entry)) (now (flags .entry)) (now (states .entry)) count (now (states .exit)) r) ⌝ }
 {
     let mut k = from;
     let mut first = before;
     let mut event = begin;
     while k < to {
         let row = 7 * k;
-        if !run_seats(
+        let least = run_seats(
             start,
             file,
             incoming,
             false,
             plan,
             places,
+            marks,
             cells,
             row,
             entries,
@@ -474,13 +627,22 @@ pub fn run_cells<'a>(
             flags,
             states,
             event,
-        ) {
-            return false;
+        );
+        match least {
+            Least::Fault {
+                event: e,
+                number,
+                place,
+                incoming: i,
+            } => {
+                return least;
+            }
+            Least::Nothing => {}
         }
         let some = cells[row + 6] as usize;
         first += some;
         event += 1 + some;
         k += 1;
     }
-    true
+    Least::Nothing
 }

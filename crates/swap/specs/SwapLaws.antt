@@ -18,7 +18,7 @@ use Rattle.sheetform.specs.Form.{checkOf}
 use Rattle.sheetform.specs.declared.SheetCheck.the-variants.{Good}
 use Rattle.views.specs.Views.{cellAt}
 use Rattle.history.specs.Events.{holds, final, history}
-use Rattle.history.specs.EventLaws.{clash, none≢some}
+use Rattle.history.specs.EventLaws.{none≢some}
 use Rattle.history.specs.Faults.{Fault}
 use Rattle.history.specs.Scan.{better, precedes, ownFault, wordAnswer, faultAnswer}
 use Rattle.history.specs.Sheet.{Values, arcSlots, cut, behind}
@@ -42,10 +42,10 @@ use Rattle.arcrun.specs.declared.Least.the-variants as least
 use Rattle.arcrun.specs.CellRuns.{cells-length, whom-of}
 use Rattle.swaparcs.specs.declared.Swap.{Swap}
 use Rattle.swaparcs.specs.Swap.{Given, olds, parts, comer, news, touched, LeastIs, writtenUpTo}
-use Rattle.swaparcs.specs.Loops.{isFault, Movers, ArcsRan, ArcsWritten}
-use Rattle.swapseats.specs.Seated.{SwapSeated}
+use Rattle.swaparcs.specs.Loops.{Movers, ArcsRan, ArcsWritten}
+use Rattle.swapchunk.specs.Seating.{SwapSeated}
 use Rattle.swap.specs.declared.Patched.the-variants as patched
-use Rattle.swap.specs.Swapped.{answerBy, SwapRun, TouchedSwapped}
+use Rattle.swap.specs.Swapped.{answerBy, SwapRun}
 
 -- 1. The cut
 
@@ -192,30 +192,17 @@ module _ (b : List ℕ) (n m f : ℕ) (file incoming : List ℕ) (slash : Bool) 
         whom-of b bytes n m f good incoming slash true (g .cell2) (g .is2),
       )
 
--- 4. Refused or done, by what the loops answer
+-- 4. Refused or done, by the least fault
 
 module _ (b : List ℕ) (n m f : ℕ) (file incoming : List ℕ) (slash : Bool) (cells entries cells2 entries2 : List ℕ) (swap : Swap)
-    (leaver : Whom) (type : List ℕ) (newcomer : Whom) (type2 : List ℕ) where
-  module _ (own : Least) where
-    pub touched-stop : (r : Least) (current : List ℕ) → isFault r ≡ true
-        → ArcsRan b n m f file incoming slash cells entries cells2 entries2 swap leaver type newcomer type2 own r
-        → TouchedSwapped b n m f file incoming slash cells entries cells2 entries2 swap leaver type newcomer type2 own current current (answerBy r)
-    touched-stop least.Nothing current e ran move owns = clash e
-    touched-stop (least.Fault ev x p i) current e ran move owns =
-        swap-refused b n m f file incoming slash cells entries cells2 entries2 swap leaver type newcomer type2 own move owns ev x p i current ran
-
-    pub touched-go : (r : Least) (current current′ : List ℕ) → isFault r ≡ false
-        → ArcsRan b n m f file incoming slash cells entries cells2 entries2 swap leaver type newcomer type2 own r
-        → ArcsWritten b n m f file incoming slash cells entries cells2 entries2 swap leaver type newcomer type2 current current′
-        → TouchedSwapped b n m f file incoming slash cells entries cells2 entries2 swap leaver type newcomer type2 own current current′ patched.Done
-    touched-go least.Nothing current current′ e ran written move owns =
-        swap-done b n m f file incoming slash cells entries cells2 entries2 swap leaver type newcomer type2 own move owns current current′ ran written
-    touched-go (least.Fault ev x p i) current current′ e ran written move owns = clash (sym e)
-
-  -- all touched arcs were run together
-  pub touched-seated : (own : Least) (current current′ : List ℕ) → isFault own ≡ false
-      → SwapSeated b n m f file incoming slash cells entries cells2 entries2 swap leaver type newcomer type2 current current′ true
-      → TouchedSwapped b n m f file incoming slash cells entries cells2 entries2 swap leaver type newcomer type2 own current current′ patched.Done
-  touched-seated least.Nothing current current′ e w =
-      touched-go least.Nothing least.Nothing current current′ refl (w .0) (w .1)
-  touched-seated (least.Fault ev x p i) current current′ e w = clash (sym e)
+    (leaver : Whom) (type : List ℕ) (newcomer : Whom) (type2 : List ℕ) (own : Least)
+    (move : MoversAre b n m f file incoming slash cells entries cells2 entries2 swap leaver type newcomer type2)
+    (owns : OwnLeast b n m f file incoming slash cells entries cells2 entries2 swap own) (current : List ℕ) where
+  pub swap-answered : (r : Least) (current′ : List ℕ)
+      → SwapSeated b n m f file incoming slash cells entries cells2 entries2 swap leaver type newcomer type2 own current current′ r
+      → SwapRun b n m f file incoming slash cells entries cells2 entries2 swap current current′ (answerBy r)
+  swap-answered least.Nothing current′ w =
+      swap-done b n m f file incoming slash cells entries cells2 entries2 swap leaver type newcomer type2 own move owns current current′ (w .0) (w .1)
+  swap-answered (least.Fault ev x p i) current′ w =
+      rw (w .1)
+      (swap-refused b n m f file incoming slash cells entries cells2 entries2 swap leaver type newcomer type2 own move owns ev x p i current (w .0))

@@ -8,18 +8,15 @@ use Rattle.wire.specs.Wire.{Bytes}
 use Rattle.sheetform.specs.Form.{checkOf}
 use Rattle.sheetform.specs.declared.SheetCheck.the-variants.{Good}
 use Rattle.history.specs.Events.{Answer, sheet, refused}
-use Rattle.history.specs.Scan.{ownFault}
 use Rattle.history.specs.Sheet as history
 use Rattle.history.specs.Sheet.{Slot, Values}
 use Rattle.slots.specs.Slots.{valuesOf, spelled, sheetAt}
 use Rattle.applying.specs.Instances.{recordsAt}
-use Rattle.annotate.specs.declared.Whom.{Whom}
 use Rattle.patching.specs.Where.{Where, at}
 use Rattle.arcrun.specs.declared.Least.{Least}
 use Rattle.arcrun.specs.declared.Least.the-variants as least
 use Rattle.swaparcs.specs.declared.Swap.{Swap}
-use Rattle.swaparcs.specs.Swap.{Given, olds, comer, news, LeastIs}
-use Rattle.swaparcs.specs.Loops.{Movers}
+use Rattle.swaparcs.specs.Swap.{Given, olds, comer}
 use Rattle.swap.specs.declared.Patched.{Patched}
 use Rattle.swap.specs.declared.Patched.the-variants as patched
 
@@ -48,11 +45,3 @@ module _ (b : List ℕ) (n m f : ℕ) (file incoming : List ℕ) (slash : Bool) 
       (comer b n m f file incoming slash g) v))
       × (current′ ≡ sheetOf b current n m f (history.patch (recordsAt b n m f) (valuesOf (sheetAt b n m f)) (olds b n m f file incoming slash g)
       (suc (swap .outgoing)) (at false 0) (comer b n m f file incoming slash g) v))
-
-  -- the same, by what its loops are told
-  abbrev pub TouchedSwapped : (leaver : Whom) (type : List ℕ) (newcomer : Whom) (type2 : List ℕ) → Least → (current current′ : List ℕ) → Patched → Type 0
-  TouchedSwapped leaver type newcomer type2 own current current′ r =
-      (Bytes b → checkOf b ≡ Good n m f → (g : Given cells entries cells2 entries2 (swap .cells) (swap .outgoing))
-      → Movers b n m f file incoming slash cells entries cells2 entries2 swap g leaver type newcomer type2)
-      → (Bytes b → checkOf b ≡ Good n m f → (g : Given cells entries cells2 entries2 (swap .cells) (swap .outgoing))
-      → LeastIs b n m f file incoming slash g (ownFault (news b n m f file incoming slash g)) own) → SwapRun current current′ r

@@ -1,15 +1,13 @@
 // Swapping one cell of a file that was read for the incoming one (document 01, 'Patching').
 //
-// First decide, then write: the arcs with a touched slot are run together, if that can be done and has no fault; else one after the other, and the
-// least fault is the answer.
+// First decide, then write: the least fault of the touched slots and of the incoming cell's own is the answer; without one the touched values are written.
 ghost use mathlib.Core.Path.{_≡_};
 ghost use lib.ListN.{length};
 ghost use Rattle.sheetform.specs.Form.{checkOf};
 ghost use Rattle.sheetform.specs.declared.SheetCheck.the-variants.{Good};
-ghost use Rattle.swaparcs.specs.Loops.{SwapReady, SwapFits};
-ghost use Rattle.swap.specs.Swapped.{answerBy, TouchedSwapped, SwapRun};
+ghost use Rattle.swaparcs.specs.Loops.{SwapReady};
+ghost use Rattle.swap.specs.Swapped.{answerBy, SwapRun};
 ghost use Rattle.swap.specs.declared.Patched.the-variants.{Refused};
-use annotate::Whom;
 use apply::Plan;
 use arcrun::Least;
 use swaparcs::Swap;
@@ -50,137 +48,6 @@ fn answer_of(least: Least) -> Patched
     }
 }
 
-// Judges the touched slots arc by arc, and writes them where there is no fault.
-fn swap_one_by_one<'a>(
-    start: &[u8],
-    file: &'a [u8],
-    incoming: &'a [u8],
-    plan: Plan,
-    swap: Swap,
-    places: &[u32; 4096],
-    cells: &[u64],
-    entries: &[u64],
-    leaver: Whom,
-    leavertype: &[u8],
-    cells2: &[u64],
-    entries2: &[u64],
-    comer: Whom,
-    comertype: &[u8],
-    own: Least,
-    current: &mut [u8],
-) -> Patched
-    requires { ⌜ (SwapFits (now start) plan swap (now places) (now cells) (now entries) leaver (now cells2) (now entries2) comer)
-        × (length (now current) ≡ length (now start)) ⌝ }
-    ensures { λ r. ⌜ TouchedSwapped (now (start .entry)) (plan .instances) (plan .arcs) (plan .first) (now (file .entry)) (now (incoming .entry)) (plan .slash)
-        (now (cells .entry)) (now (entries .entry)) (now (cells2 .entry)) (now (entries2 .entry)) swap leaver (now (leavertype .entry)) comer
-        (now (comertype .entry)) own (now (current .entry)) (now (current .exit)) r ⌝ }
-{
-    let least = swaparcs::least_of_arcs(
-        start,
-        file,
-        incoming,
-        plan,
-        swap,
-        places,
-        cells,
-        entries,
-        leaver,
-        leavertype,
-        cells2,
-        entries2,
-        comer,
-        comertype,
-        own,
-    );
-    if swaparcs::is_fault(least) {
-        return answer_of(least);
-    }
-    swaparcs::write_arcs(
-        start,
-        file,
-        incoming,
-        plan,
-        swap,
-        places,
-        cells,
-        entries,
-        leaver,
-        leavertype,
-        cells2,
-        entries2,
-        comer,
-        comertype,
-        current,
-    );
-    Patched::Done
-}
-
-// Judges the touched slots, all together where that can be done, and writes them where there is no fault.
-fn swap_touched<'a>(
-    start: &[u8],
-    file: &'a [u8],
-    incoming: &'a [u8],
-    plan: Plan,
-    swap: Swap,
-    places: &[u32; 4096],
-    cells: &[u64],
-    entries: &[u64],
-    leaver: Whom,
-    leavertype: &[u8],
-    cells2: &[u64],
-    entries2: &[u64],
-    comer: Whom,
-    comertype: &[u8],
-    own: Least,
-    current: &mut [u8],
-) -> Patched
-    requires { ⌜ (SwapFits (now start) plan swap (now places) (now cells) (now entries) leaver (now cells2) (now entries2) comer)
-        × (length (now current) ≡ length (now start)) ⌝ }
-    ensures { λ r. ⌜ TouchedSwapped (now (start .entry)) (plan .instances) (plan .arcs) (plan .first) (now (file .entry)) (now (incoming .entry)) (plan .slash)
-        (now (cells .entry)) (now (entries .entry)) (now (cells2 .entry)) (now (entries2 .entry)) swap leaver (now (leavertype .entry)) comer
-        (now (comertype .entry)) own (now (current .entry)) (now (current .exit)) r ⌝ }
-{
-    if !swaparcs::is_fault(own) {
-        if swapseats::swap_seated(
-            start,
-            file,
-            incoming,
-            plan,
-            swap,
-            places,
-            cells,
-            entries,
-            leaver,
-            leavertype,
-            cells2,
-            entries2,
-            comer,
-            comertype,
-            current,
-        ) {
-            return Patched::Done;
-        }
-    }
-    swap_one_by_one(
-        start,
-        file,
-        incoming,
-        plan,
-        swap,
-        places,
-        cells,
-        entries,
-        leaver,
-        leavertype,
-        cells2,
-        entries2,
-        comer,
-        comertype,
-        own,
-        current,
-    )
-}
-
 // Swaps one cell of a file that was read for the incoming one.
 pub fn swap_cell<'a>(
     start: &[u8],
@@ -211,13 +78,14 @@ pub fn swap_cell<'a>(
     let into = views::cell_at(cells2, 0);
     let comer = annotate::whom_of(start, incoming, plan, &places, into);
     let comertype = names::part_of(incoming, into.typefrom, into.typeto);
-    swap_touched(
+    let least = swapseats::swap_seated(
         start,
         file,
         incoming,
         plan,
         swap,
         &places,
+        &marks,
         cells,
         entries,
         leaver,
@@ -228,5 +96,6 @@ pub fn swap_cell<'a>(
         comertype,
         own,
         current,
-    )
+    );
+    answer_of(least)
 }

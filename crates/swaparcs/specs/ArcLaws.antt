@@ -125,22 +125,22 @@ fault-some e i p s q = let z : _≡_ {A = ℕ} 0 1 = cc in omega arith
 
 module _ (b : List ℕ) (n m f : ℕ) (file incoming : List ℕ) (slash : Bool) (cells entries cells2 entries2 : List ℕ) (swap : Swap) where
   -- the values of the starting sheet
-  abbrev first-values : Values
+  abbrev pub first-values : Values
   first-values = valuesOf (sheetAt b n m f)
 
   module _ (ready : SwapReady cells entries cells2 entries2 swap) (g : Given cells entries cells2 entries2 (swap .cells) (swap .outgoing)) where
     -- the three parts of the new file's events
-    abbrev es1 : List (Event Slot Where)
+    abbrev pub es1 : List (Event Slot Where)
     es1 = fileEvents (recordsAt b n m f) (parts b n m f file incoming slash g .before)
 
-    abbrev es2 : List (Event Slot Where)
+    abbrev pub es2 : List (Event Slot Where)
     es2 = events (recordsAt b n m f) (comer b n m f file incoming slash g)
 
     abbrev es3 : List (Event Slot Where)
     es3 = fileEvents (recordsAt b n m f) (parts b n m f file incoming slash g .after)
 
     -- and their lengths
-    long1 : length es1 ≡ swap .outgoing + swap .before
+    pub long1 : length es1 ≡ swap .outgoing + swap .before
     long1 =
         let c = g .cellsAre in
         let l = g .there in
@@ -148,7 +148,7 @@ module _ (b : List ℕ) (n m f : ℕ) (file incoming : List ℕ) (slash : Bool) 
         length-file (recordsAt b n m f) (at false) file slash (g .cs) (g .is) (swap .outgoing) u (sym (g .entriesAre .0))
         ∙ ap (λ z. swap .outgoing + z) (sym (ready .before ∙ before-is cells (swap .cells) (g .cs) c (swap .outgoing) (omega arith)))
 
-    long2 : length es2 ≡ 1 + swap .coming
+    pub long2 : length es2 ≡ 1 + swap .coming
     long2 =
         let many2 : swap .coming ≡ g .cell2 .entries = ready .coming ∙ g .cellIs 6 (omega arith) in
         cell-length b incoming slash n m f true (g .cell2) (g .is2) ∙ rw (g .entriesAre2 .0, many2)
@@ -202,7 +202,7 @@ module _ (b : List ℕ) (n m f : ℕ) (file incoming : List ℕ) (slash : Bool) 
           )
 
     -- the cells behind are the file's last
-    behind-are : drop (suc (swap .outgoing)) (take (swap .cells) (olds b n m f file incoming slash g)) ≡ parts b n m f file incoming slash g .after
+    pub behind-are : drop (suc (swap .outgoing)) (take (swap .cells) (olds b n m f file incoming slash g)) ≡ parts b n m f file incoming slash g .after
     behind-are =
         let z = cells-length (at false) file slash (g .cs) (g .is) in
         let c = g .cellsAre .0 in
@@ -211,7 +211,7 @@ module _ (b : List ℕ) (n m f : ℕ) (file incoming : List ℕ) (slash : Bool) 
   module _ (q : ℕ) (flags st0 st1 : List ℕ) (r1 : Least) (ready : SwapReady cells entries cells2 entries2 swap) (start : st0 ≡ take 144 (drop (valuesAt b q) b))
       (run1 : CellsRan b file slash n m f cells 0 (swap .outgoing) entries q flags st0 st1 0 r1) where
     -- what the first run says
-    first-run : Bytes b → checkOf b ≡ Good n m f → (j : ℕ) → j < m → q ≡ place b j f
+    pub first-run : Bytes b → checkOf b ≡ Good n m f → (j : ℕ) → j < m → q ≡ place b j f
         → (g : Given cells entries cells2 entries2 (swap .cells) (swap .outgoing)) → Flags flags j (touched b n m f file incoming slash g)
         → Ran j (touched b n m f file incoming slash g) first-values (es1 ready g) 0 st1 r1
     first-run bytes good j l d g y =
@@ -233,7 +233,7 @@ module _ (b : List ℕ) (n m f : ℕ) (file incoming : List ℕ) (slash : Bool) 
     module _ (st2 : List ℕ) (r2 : Least) (none1 : r1 ≡ least.Nothing)
         (run2 : CellRan b incoming slash n m f true cells2 0 entries2 0 q flags st1 st2 (swap .outgoing + swap .before) r2) where
       -- what the second run says
-      second-run : Bytes b → checkOf b ≡ Good n m f → (j : ℕ) → j < m → q ≡ place b j f
+      pub second-run : Bytes b → checkOf b ≡ Good n m f → (j : ℕ) → j < m → q ≡ place b j f
           → (g : Given cells entries cells2 entries2 (swap .cells) (swap .outgoing)) → Flags flags j (touched b n m f file incoming slash g)
           → Ran j (touched b n m f file incoming slash g) (groupLeft (arcSlots j) (touched b n m f file incoming slash g) first-values (es1 ready g)) (es2 ready g)
           (swap .outgoing + swap .before) st2 r2

@@ -6,26 +6,23 @@ use mathlib.Core.Bool.{Bool, true, false, not}
 use mathlib.Core.List.{List}
 use mathlib.Core.Option.{none}
 use lib.Dec.{eqb, ltb}
-use lib.ListN.{length, getD, take, drop}
+use lib.ListN.{length, getD}
 use Rattle.classes.specs.Choice.{pick, and, or}
 use Rattle.wire.specs.Wire.{Bytes}
-use Rattle.sheetform.specs.Form.{checkOf, valuesAt}
+use Rattle.sheetform.specs.Form.{checkOf}
 use Rattle.sheetform.specs.declared.SheetCheck.the-variants.{Good}
 use Rattle.sheetlaws.specs.Sheet.{place}
-use Rattle.sheet.specs.Find.{ArcsGood, InstanceSearch}
 use Rattle.history.specs.Scan.{ownFault}
 use Rattle.history.specs.Sheet.{Values, arcSlots}
 use Rattle.slots.specs.Slots.{valuesOf, spelled, sheetAt}
-use Rattle.apply.specs.declared.Plan.{Plan}
 use Rattle.annotate.specs.declared.Whom.{Whom}
-use Rattle.annotate.specs.Whom.{InSheet}
 use Rattle.annotate.specs.Cells.{entriesBefore}
 use Rattle.patching.specs.Group.{groupFault, groupLeft, leastFault}
 use Rattle.patching.specs.Scratch.{Holds18, Flags}
 use Rattle.arcrun.specs.declared.Least.{Least}
 use Rattle.arcrun.specs.declared.Least.the-variants as least
-use Rattle.arcrun.specs.Touch.{cellTouched}
-use Rattle.arcrun.specs.Run.{Of, CellsRan}
+use Rattle.arcrun.specs.Touch.{entriesTouched}
+use Rattle.arcrun.specs.Run.{Of}
 use Rattle.swaparcs.specs.declared.Swap.{Swap}
 use Rattle.swaparcs.specs.Swap.{Given, parts, comer, news, touched, LeastIs, writtenUpTo}
 
@@ -50,7 +47,7 @@ isFault (least.Fault e n p i) = true
 abbrev pub bothTouched : (b file incoming : List ℕ) (slash : Bool) (n : ℕ) (t : List ℕ) (first count : ℕ) → Whom → (type t2 : List ℕ) (count2 : ℕ) → Whom
     → (type2 : List ℕ) (q : ℕ) → List ℕ → List ℕ
 bothTouched b file incoming slash n t first count whom type t2 count2 whom2 type2 q flags =
-    cellTouched b incoming slash n t2 0 whom2 type2 q (cellTouched b file slash n t first whom type q flags count) count2
+    entriesTouched b incoming slash n t2 0 whom2 type2 q (entriesTouched b file slash n t first whom type q flags count) count2
 
 -- what the tables have room for, and what the swap's numbers are
 pub record SwapReady (cells entries cells2 entries2 : List ℕ) (swap : Swap) : Type 0 where
@@ -63,15 +60,6 @@ pub record SwapReady (cells entries cells2 entries2 : List ℕ) (swap : Swap) : 
   pub coming : swap .coming ≡ getD cells2 6 0
   pub entriesRoom2 : 28 * swap .coming ≤ length entries2
 
--- and what the loops over arcs are asked
-pub record SwapFits (b : List ℕ) (plan : Plan) (swap : Swap) (places cells entries : List ℕ) (leaver : Whom) (cells2 entries2 : List ℕ) (comer : Whom) : Type 0
-  where
-    pub ready : SwapReady cells entries cells2 entries2 swap
-    pub search : InstanceSearch b (plan .instances) 12 places
-    pub arcs : ArcsGood b (plan .arcs) (plan .first)
-    pub leaverIn : InSheet b leaver
-    pub comerIn : InSheet b comer
-
 module _ (b : List ℕ) (n m f : ℕ) (file incoming : List ℕ) (slash : Bool) (cells entries cells2 entries2 : List ℕ) (swap : Swap) where
   -- one arc, the 18 values of which started from the starting sheet
   abbrev pub ArcRan : (q : ℕ) (flags st′ : List ℕ) → Least → Type 0
@@ -82,12 +70,6 @@ module _ (b : List ℕ) (n m f : ℕ) (file incoming : List ℕ) (slash : Bool) 
       (groupFault (arcSlots j) (touched b n m f file incoming slash g) (valuesOf (sheetAt b n m f)) (news b n m f file incoming slash g)) r)
       × (r ≡ least.Nothing → Holds18 st′ j
       (groupLeft (arcSlots j) (touched b n m f file incoming slash g) (valuesOf (sheetAt b n m f)) (news b n m f file incoming slash g)))
-
-  -- one arc, the values of which came through the cells before the outgoing one without a fault
-  abbrev pub RestRan : (q : ℕ) (flags st st′ : List ℕ) → Least → Type 0
-  RestRan q flags st st′ r =
-      (st0 : List ℕ) → st0 ≡ take 144 (drop (valuesAt b q) b)
-      → CellsRan b file slash n m f cells 0 (swap .outgoing) entries q flags st0 st 0 least.Nothing → ArcRan q flags st′ r
 
   -- the outgoing and the incoming cell apply to these instances
   abbrev pub Movers : (g : Given cells entries cells2 entries2 (swap .cells) (swap .outgoing)) (leaver : Whom) (type : List ℕ) (newcomer : Whom) (type2 : List ℕ)

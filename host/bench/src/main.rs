@@ -16,8 +16,8 @@ use measure::{best, loop_time, print_table, with_commas, Row};
 /// How many INTERCONNECT and how many IOPATH entries the annotated files have.
 const WIRES: [usize; 3] = [4_000, 16_000, 33_000];
 
-/// How many INTERCONNECT entries the top cell has that is issued again: patching a large cell costs with the square.
-const TOP_WIRES: [usize; 3] = [500, 1_000, 2_000];
+/// How many INTERCONNECT entries the top cell has that is issued again; the last are more arcs than a patch takes at a time.
+const TOP_WIRES: [usize; 4] = [500, 1_000, 2_000, 10_000];
 
 fn main() {
     let texts: Vec<Vec<u8>> = [1_000_000, 4_000_000, 10_000_000].map(text::board).to_vec();
@@ -40,13 +40,7 @@ fn main() {
                 patch_row("patch", &board, &Reissue::of_macro(&board, 5))
             }),
         );
-        print_table(
-            "Patching the top cell, which has half of the entries",
-            &TOP_WIRES.map(|wires| {
-                let board = Board::new(netlist(wires, Order::Netlist));
-                patch_row("patch the top cell", &board, &Reissue { number: 1, incoming: top_cell(wires), runs: 2 })
-            }),
-        );
+        print_table("Patching the top cell, which has half of the entries", &TOP_WIRES.map(patch_top_row));
     }
     if [Functions::Sheet, Functions::Annotate, Functions::Patch].into_iter().all(proved::has) {
         print_shares(&Board::new(netlist(WIRES[2], Order::Netlist)));
@@ -192,6 +186,11 @@ fn patch_row(what: &str, board: &Board, reissue: &Reissue) -> Row {
         second: Some(second),
         proved,
     }
+}
+
+fn patch_top_row(wires: usize) -> Row {
+    let board = Board::new(netlist(wires, Order::Netlist));
+    patch_row("patch the top cell", &board, &Reissue { number: 1, incoming: top_cell(wires), runs: 2 })
 }
 
 /// What a patch costs beside annotating, whole and beyond reading the file and checking the sheet, which both need.

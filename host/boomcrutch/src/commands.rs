@@ -4,19 +4,19 @@ use std::ffi::OsString;
 use std::io::Write;
 use std::path::Path;
 
+use command::arguments::{self, bad_number, number, shown, Given, Parsed, Shape};
+use command::blank::{blank, NoSheet};
+use command::explain;
+use command::listing::write_listing;
+use command::report::{line_and_column, About, Refused};
+use command::rooms::{Rooms, Wanted};
+use command::sheet::write_sheet;
 use proved::{Functions, ReadAnswer, ResultAnswer, Swap, HEADER_TEXTS};
 
-use crate::arguments::{self, bad_number, number, shown, Given, Parsed, Shape};
-use crate::blank::{blank, NoSheet};
-use crate::explain;
 use crate::failure::Failure;
 use crate::files::{read, read_standard_input, Input, Output};
 use crate::help::{self, Help};
-use crate::listing::write_listing;
 use crate::output::{print, say};
-use crate::report::{line_and_column, About, Refused};
-use crate::rooms::{Rooms, Wanted};
-use crate::sheet::write_sheet;
 
 type Done = Result<(), Failure>;
 

@@ -11,9 +11,9 @@ use std::os::unix::ffi::OsStrExt;
 use std::os::unix::fs::MetadataExt;
 use std::path::Path;
 
+use command::arguments::shown;
 use proved::LIMIT;
 
-use crate::arguments::shown;
 use crate::system::{self, Purpose};
 
 /// What was read, and from where.

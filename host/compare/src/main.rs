@@ -9,12 +9,15 @@ mod show;
 
 use std::collections::BTreeMap;
 use std::process::ExitCode;
-use std::time::Instant;
+use std::time::{Duration, Instant};
 
 use second::shrink::shrink;
-use second::{case, Case};
+use second::{case, touched_arcs, Case};
 
 use left::{by_proved, by_second, difference, missing};
+
+/// For how long a differing case is made smaller: one of thousands of arcs that needs them all would take hours.
+const SHRINKING: Duration = Duration::from_secs(600);
 
 const USAGE: &str = "usage: compare COUNT [--from SEED]";
 
@@ -46,7 +49,8 @@ fn compare(count: u64, from: u64) -> bool {
     for seed in (0..count).map(|number| from.wrapping_add(number)) {
         if let Some(part) = tally.judge(&case(seed)) {
             println!("seed {seed} differs in {part}");
-            let smallest = shrink(case(seed), |case| difference(case).is_some());
+            let until = Instant::now() + SHRINKING;
+            let smallest = shrink(case(seed), |case| Instant::now() < until && difference(case).is_some());
             show::print_case(&smallest);
             return false;
         }
@@ -65,7 +69,8 @@ fn compare(count: u64, from: u64) -> bool {
     true
 }
 
-/// How many cases of each operation were accepted (0) or refused, by number; and how many the library lacks.
+/// How many cases of each operation, and of the patches of many arcs among them, were accepted (0) or refused, by number; and
+/// how many the library lacks.
 #[derive(Default)]
 struct Tally {
     answers: BTreeMap<&'static str, BTreeMap<u64, u64>>,
@@ -80,14 +85,16 @@ impl Tally {
             return difference(case);
         }
         let (expected, found) = (by_second(case), by_proved(case));
-        *self.answers.entry(operation(case)).or_default().entry(expected.answer[0]).or_default() += 1;
+        for group in [Some(operation(case)), many_arcs(case)].into_iter().flatten() {
+            *self.answers.entry(group).or_default().entry(expected.answer[0]).or_default() += 1;
+        }
         expected.difference(&found)
     }
 
     fn print(&self) {
         for (operation, answers) in &self.answers {
             let all: u64 = answers.values().sum();
-            print!("{operation:12}{all:9} cases: accepted {}", answers.get(&0).unwrap_or(&0));
+            print!("{operation:24}{all:9} cases: accepted {}", answers.get(&0).unwrap_or(&0));
             let refused = answers.iter().filter(|(number, _)| **number != 0);
             let refused: Vec<String> = refused.map(|(number, count)| format!("{number}: {count}")).collect();
             println!("{}{}", if refused.is_empty() { "" } else { ", refused " }, refused.join(", "));
@@ -105,5 +112,14 @@ fn operation(case: &Case) -> &'static str {
         Case::CheckSheet { .. } => "check sheet",
         Case::Annotate { .. } => "annotate",
         Case::Patch { .. } => "patch",
+    }
+}
+
+/// Which of the patches of many arcs this is, if it is one: the proved program has other ways for them.
+fn many_arcs(case: &Case) -> Option<&'static str> {
+    match touched_arcs(case) {
+        0..=64 => None,
+        65..=4_096 => Some("patch, over 64 arcs"),
+        _ => Some("patch, over 4,096 arcs"),
     }
 }

@@ -2,7 +2,7 @@
 //! compared by.
 
 use crate::annotate::{annotate_and_read, Counts};
-use crate::patch::{patch_and_read, Given};
+use crate::patch::{arcs_in_question, patch_and_read, Given};
 use crate::reader::{read_cell, read_file, File, Rooms};
 use crate::refusal::Refusal;
 use crate::sheet::check_sheet;
@@ -83,6 +83,16 @@ pub fn outcome(case: &Case) -> Outcome {
             patch_outcome(given, current.clone())
         }
     }
+}
+
+/// How many arcs a patch is about: those that the outgoing or the incoming cell supplies anything
+/// to. None in other cases, and in a patch that is refused before.
+pub fn touched_arcs(case: &Case) -> usize {
+    let Case::Patch { start, file, number, incoming, current, file_rooms, incoming_rooms } = case else {
+        return 0;
+    };
+    let (file_rooms, incoming_rooms) = (*file_rooms, *incoming_rooms);
+    arcs_in_question(Given { start, file, number: *number, incoming, file_rooms, incoming_rooms }, current)
 }
 
 fn read_outcome(read: Result<File, Refusal>) -> Outcome {

@@ -4,8 +4,10 @@
 //! are made from the world's names, so that most of them fit together.
 
 mod damage;
+mod large;
 mod sheets;
 mod texts;
+mod very_large;
 mod world;
 
 use crate::annotate::annotate;
@@ -15,16 +17,34 @@ use crate::reader::{read_cell, read_file, File, Rooms};
 use crate::refusal::Refusal;
 use crate::sheet::encode;
 use damage::{damaged_text, damaged_tokens};
+use large::large_patch;
 use sheets::{hostile_sheet, odd_values, other_records, sheet_of};
 use texts::{cell_tokens, file_tokens, joined, Scale, Tokens};
+use very_large::{many_paths_patch, very_large_patch};
 use world::World;
 
 /// Enough room for any text made here.
-const AMPLE: Rooms = Rooms { cells: 4_096, entries: 4_096 };
+const AMPLE: Rooms = Rooms { cells: 4_096, entries: 65_536 };
 
-/// The case of a seed.
+/// One patch in so many cases is one of a large cell, of a few entries that mean thousands of arcs,
+/// or of thousands of entries.
+const LARGE_ONCE_IN: u64 = 150;
+const MANY_PATHS_ONCE_IN: u64 = 2_500;
+const VERY_LARGE_ONCE_IN: u64 = 5_000;
+
+/// The case of a seed. The number of the seed, not chance, tells which are large, so that every run
+/// has its share of them, and the others are what they would be without.
 pub fn case(seed: u64) -> Case {
     let random = &mut Random::new(seed);
+    if seed % VERY_LARGE_ONCE_IN == VERY_LARGE_ONCE_IN - 1 {
+        return very_large_patch(random, seed / VERY_LARGE_ONCE_IN % 4);
+    }
+    if seed % MANY_PATHS_ONCE_IN == MANY_PATHS_ONCE_IN / 2 {
+        return many_paths_patch(random);
+    }
+    if seed % LARGE_ONCE_IN == LARGE_ONCE_IN / 2 {
+        return large_patch(random);
+    }
     let world = World::new(random);
     match random.below(100) {
         0..=24 => read_file_case(random, &world),

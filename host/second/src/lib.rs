@@ -30,7 +30,7 @@ pub mod shrink;
 pub mod tokens;
 
 pub use annotate::{annotate, Counts};
-pub use case::{case, outcome, Answer, Case, Outcome};
+pub use case::{case, outcome, touched_arcs, Answer, Case, Outcome};
 pub use kinds::Kind;
 pub use listing::listing;
 pub use patch::patch;

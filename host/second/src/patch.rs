@@ -5,7 +5,7 @@
 //! list of all steps that the new file has for it, run from the starting value. The refusal is the
 //! earliest one of all slots' histories and of the incoming cell.
 
-use std::collections::BTreeMap;
+use std::collections::{BTreeMap, BTreeSet};
 
 use crate::address::Addresses;
 use crate::annotate::Counts;
@@ -57,8 +57,24 @@ pub fn patch_and_read(given: Given, current: &mut [u8]) -> (Result<PatchCounts, 
     (answer, tables)
 }
 
-/// "In patching: 10, 11, 18, file, 17, incoming text, then as annotating."
+/// Patches the current sheet, and leaves the tables of what was read.
 fn patch_into(given: Given, current: &mut [u8], tables: &mut PatchTables) -> Result<PatchCounts, Refusal> {
+    let (sheet, file, incoming, outgoing) = judged(given, current, tables)?;
+    let swap = Swap { addresses: Addresses::new(&sheet), given, file, incoming, outgoing };
+    let arcs: Vec<&Arc> = sheet.arcs.values().collect();
+    for ((arc, slot), value) in swap.new_values(&arcs)? {
+        write_value(current, arcs[arc].place, slot, value);
+    }
+    Ok((Counts::of(file), Counts::of(incoming)))
+}
+
+/// The starting sheet, the reading of both texts, and the outgoing cell's number from 0. "In
+/// patching: 10, 11, 18, file, 17, incoming text, then as annotating."
+fn judged<'t>(
+    given: Given,
+    current: &[u8],
+    tables: &'t mut PatchTables,
+) -> Result<(Sheet, &'t File, &'t File, usize), Refusal> {
     let sheet = check_sheet(given.start).map_err(|()| Refusal::in_file(10, 0))?;
     if current.len() != given.start.len() {
         return Err(Refusal::in_file(11, 0));
@@ -72,13 +88,20 @@ fn patch_into(given: Given, current: &mut [u8], tables: &mut PatchTables) -> Res
         return Err(Refusal::in_file(17, 0));
     };
     let cell = read_cell(given.incoming, file.divider, file.scale, given.incoming_rooms)?;
-    let incoming = tables.incoming.insert(cell);
+    Ok((sheet, file, tables.incoming.insert(cell), outgoing))
+}
+
+/// How many arcs have a slot that the outgoing or the incoming cell supplies; none if the patch is
+/// refused before that is asked.
+pub fn arcs_in_question(given: Given, current: &[u8]) -> usize {
+    let mut tables = PatchTables::default();
+    let Ok((sheet, file, incoming, outgoing)) = judged(given, current, &mut tables) else {
+        return 0;
+    };
     let swap = Swap { addresses: Addresses::new(&sheet), given, file, incoming, outgoing };
-    let arcs: Vec<&Arc> = sheet.arcs.values().collect();
-    for ((arc, slot), value) in swap.new_values(&arcs)? {
-        write_value(current, arcs[arc].place, slot, value);
-    }
-    Ok((Counts::of(file), Counts::of(incoming)))
+    let (old_cells, new_cells) = swap.old_and_new_cells();
+    let slots = swap.slots_in_question(&old_cells[outgoing], &new_cells[outgoing]);
+    slots.into_keys().map(|(arc, _)| arc).collect::<BTreeSet<usize>>().len()
 }
 
 /// Whether the current sheet's records differ from the starting ones in nothing but values: with
@@ -152,17 +175,8 @@ struct Swap<'a> {
 impl<'a> Swap<'a> {
     /// The new value of every slot that the outgoing or the incoming cell supplies.
     fn new_values(&self, arcs: &[&Arc]) -> Result<BTreeMap<Slot, Option<i64>>, Refusal> {
-        let old_cells = self.cells(self.file, self.given.file, false);
-        let mut new_cells = self.cells(self.file, self.given.file, false);
-        for (new, old) in self.cells(self.incoming, self.given.incoming, true).into_iter().zip(self.outgoing..) {
-            new_cells[old] = new;
-        }
-        let mut histories = BTreeMap::new();
-        for cell in [&old_cells[self.outgoing], &new_cells[self.outgoing]] {
-            for (slot, _) in self.steps(self.outgoing, cell) {
-                histories.insert(slot, Vec::new());
-            }
-        }
+        let (old_cells, new_cells) = self.old_and_new_cells();
+        let mut histories = self.slots_in_question(&old_cells[self.outgoing], &new_cells[self.outgoing]);
         for (number, cell) in new_cells.iter().enumerate() {
             for (slot, step) in self.steps(number, cell) {
                 histories.entry(slot).and_modify(|history| history.push(step));
@@ -174,6 +188,22 @@ impl<'a> Swap<'a> {
             Some((_, refusal)) => Err(refusal),
             None => Ok(values),
         }
+    }
+
+    /// The cells of the file, and those of the new file.
+    fn old_and_new_cells(&self) -> (Vec<Source<'a>>, Vec<Source<'a>>) {
+        let old_cells = self.cells(self.file, self.given.file, false);
+        let mut new_cells = self.cells(self.file, self.given.file, false);
+        for (new, old) in self.cells(self.incoming, self.given.incoming, true).into_iter().zip(self.outgoing..) {
+            new_cells[old] = new;
+        }
+        (old_cells, new_cells)
+    }
+
+    /// The slots that the outgoing or the incoming cell supplies, with no history yet.
+    fn slots_in_question(&self, old: &Source, new: &Source) -> BTreeMap<Slot, Vec<Step>> {
+        let steps = [old, new].into_iter().flat_map(|cell| self.steps(self.outgoing, cell));
+        steps.map(|(slot, _)| (slot, Vec::new())).collect()
     }
 
     fn cells<'t>(&self, file: &'t File, text: &'t [u8], incoming: bool) -> Vec<Source<'t>> {

@@ -38,6 +38,13 @@ impl Random {
         items[self.below(items.len())]
     }
 
+    /// Puts the items in any order (Fisher and Yates).
+    pub fn shuffle<T>(&mut self, items: &mut [T]) {
+        for last in (1..items.len()).rev() {
+            items.swap(last, self.below(last + 1));
+        }
+    }
+
     /// One or, seldom, a few more: how much damage to do.
     pub fn a_few(&mut self) -> usize {
         match self.once_in(4) {

@@ -1,5 +1,6 @@
-//! Makes a telling case smaller: tries to leave out chunks of its texts and records of its sheets,
-//! as long as the case still tells.
+//! Makes a telling case smaller: tries to leave out bracketed groups and chunks of its texts, and
+//! records of its sheets, as long as the case still tells. Long runs go first, as a large case has
+//! thousands of entries and records.
 
 use std::ops::Range;
 
@@ -65,10 +66,15 @@ fn within(range: &Range<usize>, length: usize) -> Range<usize> {
     range.start.min(length)..range.end.min(length)
 }
 
-/// Leaves out chunks of one text, then runs of whole tokens.
+/// Leaves out bracketed groups of one text, then chunks, then runs of whole tokens.
 fn shrink_text(case: Case, number: usize, fails: &impl Fn(&Case) -> bool) -> Case {
-    let length = texts(&mut case.clone())[number].len();
     let mut smallest = case;
+    let mut run = texts(&mut smallest.clone())[number].iter().filter(|&&byte| byte == b'(').count();
+    while run > 0 {
+        smallest = shrink_groups(smallest, number, run, fails);
+        run /= 2;
+    }
+    let length = texts(&mut smallest.clone())[number].len();
     for chunk in chunks(length) {
         smallest = without_text(&smallest, number, &chunk, fails).unwrap_or(smallest);
     }
@@ -76,6 +82,49 @@ fn shrink_text(case: Case, number: usize, fails: &impl Fn(&Case) -> bool) -> Cas
         smallest = smaller;
     }
     smallest
+}
+
+/// Leaves out runs of so many neighbouring groups of one text, from the end to the start.
+fn shrink_groups(case: Case, number: usize, run: usize, fails: &impl Fn(&Case) -> bool) -> Case {
+    let runs_of = |case: &Case| group_runs(texts(&mut case.clone())[number], run);
+    let mut smallest = case;
+    let mut runs = runs_of(&smallest);
+    let mut left = runs.len();
+    while left > 0 {
+        left -= 1;
+        if let Some(smaller) = without_text(&smallest, number, &runs[left], fails) {
+            smallest = smaller;
+            // Those in front that reach over it end elsewhere now.
+            runs = runs_of(&smallest);
+            left = left.min(runs.len());
+        }
+    }
+    smallest
+}
+
+/// The groups from `(` to `)` that stand in the same group, taken so many at a time, in the order
+/// of their starts. Those of fewer neighbours are left to shorter runs.
+fn group_runs(text: &[u8], run: usize) -> Vec<Range<usize>> {
+    let mut open: Vec<(usize, Vec<Range<usize>>)> = vec![(0, Vec::new())];
+    let mut runs = Vec::new();
+    for token in tokens(text).list {
+        match text.get(token.start()) {
+            Some(b'(') => open.push((token.start(), Vec::new())),
+            Some(b')') if open.len() > 1 => {
+                let (start, within) = open.pop().unwrap_or_default();
+                runs.extend(runs_of_neighbours(&within, run));
+                open.last_mut().into_iter().for_each(|group| group.1.push(start..token.start() + 1));
+            }
+            _ => {}
+        }
+    }
+    runs.extend(open.iter().flat_map(|group| runs_of_neighbours(&group.1, run)));
+    runs.sort_by_key(|run| run.start);
+    runs
+}
+
+fn runs_of_neighbours(groups: &[Range<usize>], run: usize) -> Vec<Range<usize>> {
+    groups.chunks_exact(run).map(|run| run[0].start..run[run.len() - 1].end).collect()
 }
 
 /// The case without these bytes of one text, if it still tells.
@@ -116,32 +165,53 @@ fn shrink_sheets(case: Case, fails: &impl Fn(&Case) -> bool) -> Case {
     smallest
 }
 
-/// One record after the other out of all sheets, with the counts made to fit.
+/// Runs of records out of all sheets, half of them first and at last one after the other, with the
+/// counts made to fit.
 fn shrink_records(case: Case, fails: &impl Fn(&Case) -> bool) -> Case {
+    let mut smallest = case;
+    let mut run = first_records(&smallest).len().div_ceil(2);
+    while run > 0 {
+        smallest = shrink_runs_of_records(smallest, run, fails);
+        run /= 2;
+    }
+    smallest
+}
+
+fn first_records(case: &Case) -> Vec<(Range<usize>, usize)> {
+    sheets(&mut case.clone()).first().map_or(Vec::new(), |sheet| records(sheet))
+}
+
+/// Runs of so many records, or of those up to the last of its kind.
+fn shrink_runs_of_records(case: Case, run: usize, fails: &impl Fn(&Case) -> bool) -> Case {
     let mut smallest = case;
     let mut number = 0;
     loop {
-        let start = sheets(&mut smallest).first().map_or(Vec::new(), |sheet| sheet.to_vec());
-        let Some((record, count_place)) = records(&start).into_iter().nth(number) else {
+        let records = first_records(&smallest);
+        let Some((first, count_place)) = records.get(number) else {
             return smallest;
         };
-        let smaller = without(&smallest, &record, Some(count_place));
+        let alike = records[number..].iter().take(run).take_while(|record| record.1 == *count_place);
+        let (count, end) = alike.fold((0, first.end), |(count, _), record| (count + 1, record.0.end));
+        let smaller = without(&smallest, &(first.start..end), Some((*count_place, count)));
         match fails(&smaller) {
             true => smallest = smaller,
-            false => number += 1,
+            false => number += count as usize,
         }
     }
 }
 
-/// The case without these bytes of its sheets, and one less at the place of a count.
-fn without(case: &Case, bytes: &Range<usize>, count_place: Option<usize>) -> Case {
+/// The case without these bytes of its sheets, and so many less at the place of a count.
+fn without(case: &Case, bytes: &Range<usize>, counted: Option<(usize, u32)>) -> Case {
     let mut smaller = case.clone();
     for sheet in sheets(&mut smaller) {
         let bytes = within(bytes, sheet.len());
         sheet.drain(bytes);
-        if let Some(count) = count_place.and_then(|place| sheet.get_mut(place..place + 4)) {
+        let Some((place, less)) = counted else {
+            continue;
+        };
+        if let Some(count) = sheet.get_mut(place..place + 4) {
             let number = count.iter().fold(0u32, |sum, &byte| sum << 8 | u32::from(byte));
-            count.copy_from_slice(&number.wrapping_sub(1).to_be_bytes());
+            count.copy_from_slice(&number.wrapping_sub(less).to_be_bytes());
         }
     }
     smaller

@@ -1,10 +1,9 @@
 -- `seats::run_seat` meets its contract.
 -- Assumes nothing.
-use mathlib.Core.Path.{_≡_, refl, sym, _∙_}
+use mathlib.Core.Path.{_≡_, refl}
 use native.Mathlib.Omega.{arith}
 use lib.ListN.{length}
 use borrow.Author.Needs.{needs}
-use Rattle.history.specs.EventLaws.{clash}
 use Rattle.seats.proofs.run_seat.Statement.{statement}
 use Rattle.seats.proofs.run_seat.Tie as tie
 
@@ -35,12 +34,6 @@ slice-aggregate-run-entry-2 c = search needs
 run-entry-requires : tie.Need-run-entry-requires
 run-entry-requires c κs = search needs
 
-same-length : tie.Need-same-length
-same-length c = search needs
-
-returns : tie.Need-returns
-returns c = (refl, λ e. clash e)
-
 mul-store : tie.Need-mul-store
 mul-store c =
     let pre = c .before .before .before .before .before .before .before .before .before .before .before .before .before .before .before .before .before .before .before .before .pre in
@@ -53,21 +46,38 @@ slice-aggregate-store c = search needs
 store-requires : tie.Need-store-requires
 store-requires c κs = search needs
 
+same-length : tie.Need-same-length
+same-length c = search needs
+
+returns : tie.Need-returns
+returns c =
+    let run-entry = c .before .before .before .before .before .before .before .run-entry in
+    let state4 = c .before .before .before .before .before .before .state4 in
+    let states = c .before .states in
+    let load = c .before .before .before .before .before .before .before .before .before .before .before .before .before .before .before .load in
+    let load2 = c .before .before .before .before .before .before .before .before .before .before .before .load2 in
+    let if1 = c .before .before .before .before .before .if1 in
+    let store = c .before .before .store in
+    let st = run-entry .last .1 .1 .1 .1 .1 .1 .1 .1 .1 .1 .1 .1 .0 in
+    let l : length st ≡ 144 = state4 .given in (
+      states .given,
+      (
+        rw (load .ensures, load2 .ensures) at (run-entry .ensures .0),
+        (λ d. absurd (d (if1 .taken))),
+        λ e. (st, l, rw l at (store .ensures), rw (load .ensures, load2 .ensures) at (run-entry .ensures .1)),
+      ),
+    )
+
 same-length-2 : tie.Need-same-length-2
 same-length-2 c = search needs
 
 returns-2 : tie.Need-returns-2
 returns-2 c =
-    let run-entry = c .before .before .before .before .before .before .before .run-entry in
-    let state4 = c .before .before .before .before .before .before .state4 in
-    let states = c .before .states in
-    let store = c .before .before .store in
-    let load = c .before .before .before .before .before .before .before .before .before .before .before .before .before .before .before .load in
-    let load2 = c .before .before .before .before .before .before .before .before .before .before .before .load2 in
-    let if1 = c .before .before .before .before .before .if1 in
-    let st = run-entry .last .1 .1 .1 .1 .1 .1 .1 .1 .1 .1 .1 .1 .0 in
-    let l : length st ≡ 144 = state4 .given in
-    (states .given, λ e. (st, l, rw l at (store .ensures), sym (rw (load .ensures, load2 .ensures) at (run-entry .ensures .0)) ∙ if1 .left, rw (load .ensures, load2 .ensures) at (run-entry .ensures .1)))
+    let load = c .before .before .before .before .before .before .before .before .before .before .load in
+    let load2 = c .before .before .before .before .before .before .load2 in
+    let run-entry = c .before .before .run-entry in
+    let if1 = c .if1 in
+    (refl, (rw (load .ensures, load2 .ensures) at (run-entry .ensures .0), (λ d. refl), λ e. absurd (if1 .left e)))
 
 pub run-seat-spec : {M : Type 1} → statement M
 run-seat-spec =
@@ -82,10 +92,10 @@ run-seat-spec =
     slice-aggregate-run-entry
     slice-aggregate-run-entry-2
     run-entry-requires
-    same-length
-    returns
     mul-store
     slice-aggregate-store
     store-requires
+    same-length
+    returns
     same-length-2
     returns-2)

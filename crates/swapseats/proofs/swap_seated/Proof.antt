@@ -1,72 +1,81 @@
 -- `swapseats::swap_seated` meets its contract.
 -- Assumes nothing.
-use Prim.Native.Nat.{_≤_}
+use Prim.Native.Nat.{ℕ}
+use mathlib.Core.Path.{_≡_, refl, sym, _∙_}
 use native.Mathlib.Omega.{arith}
+use lib.ListN.{length-replicate}
 use denote.Ref.{now}
 use borrow.Author.Needs.{needs}
-use borrow.Author.Tests.{not-false}
-use Rattle.swapseats.specs.Seated.{seats-there, seats-ran, seats-written}
+use borrow.Author.Tests.{not-true, not-false}
+use Rattle.sheetlaws.specs.Sheet.{nth}
+use Rattle.findseat.specs.Laws.{order-there}
+use Rattle.touchseats.specs.Laws.{chosen-order}
+use Rattle.swaparcs.specs.ArcLaws.{arcs-none, arcs-end, written-none, written-end}
+use Rattle.swapseats.specs.Chunks.{part-judged, part-written, swapped-done, swapped-stop}
 use Rattle.swapseats.proofs.swap_seated.Statement.{statement}
 use Rattle.swapseats.proofs.swap_seated.Tie as tie
 
-slice-aggregate-seat-arcs : tie.Need-slice-aggregate-seat-arcs
-slice-aggregate-seat-arcs c = search needs
+slice-aggregate-mark-both : tie.Need-slice-aggregate-mark-both
+slice-aggregate-mark-both c = search needs
 
-slice-aggregate-seat-arcs-2 : tie.Need-slice-aggregate-seat-arcs-2
-slice-aggregate-seat-arcs-2 c = search needs
+mark-both-requires : tie.Need-mark-both-requires
+mark-both-requires c κs =
+    let pre = c .before .before .before .before .before .before .before .before .before .before .before .pre in
+    (pre .0, length-replicate {A = ℕ} 131072 0)
 
-seat-arcs-requires : tie.Need-seat-arcs-requires
-seat-arcs-requires c κs = search needs
+slice-aggregate-choose : tie.Need-slice-aggregate-choose
+slice-aggregate-choose c = search needs
+
+slice-aggregate-choose-2 : tie.Need-slice-aggregate-choose-2
+slice-aggregate-choose-2 c = search needs
+
+choose-requires : tie.Need-choose-requires
+unfolding nth
+choose-requires c κs =
+    let pre = c .before .before .before .before .before .before .before .before .before .before .before .before .before .before .before .pre in
+    let mark-both = c .before .before .before .mark-both in
+    (pre .0 .arcs .good, omega arith, refl, mark-both .ensures .0, search needs)
+
+slice-aggregate-swap-chunks : tie.Need-slice-aggregate-swap-chunks
+slice-aggregate-swap-chunks c = search needs
+
+slice-aggregate-swap-chunks-2 : tie.Need-slice-aggregate-swap-chunks-2
+slice-aggregate-swap-chunks-2 c = search needs
+
+slice-aggregate-swap-chunks-3 : tie.Need-slice-aggregate-swap-chunks-3
+slice-aggregate-swap-chunks-3 c = search needs
+
+swap-chunks-requires : tie.Need-swap-chunks-requires
+swap-chunks-requires c κs =
+    let pre = c .before .before .before .before .before .before .before .before .before .before .before .before .before .before .before .before .before .before .before .before .before .before .before .before .pre in
+    let mark-both = c .before .before .before .before .before .before .before .before .before .before .before .before .mark-both in
+    (pre .0, mark-both .ensures .1, mark-both .ensures .0, length-replicate {A = ℕ} 73728 0, length-replicate {A = ℕ} 589824 0, pre .1)
+
+same-length : tie.Need-same-length
+same-length c = search needs
 
 returns : tie.Need-returns
 returns c = search needs
 
-slice-aggregate-load-seats : tie.Need-slice-aggregate-load-seats
-slice-aggregate-load-seats c = search needs
+slice-aggregate-run-chunk : tie.Need-slice-aggregate-run-chunk
+slice-aggregate-run-chunk c = search needs
 
-load-seats-requires : tie.Need-load-seats-requires
-load-seats-requires c κs =
-    let seat-arcs = c .before .before .before .before .before .seat-arcs in
-    let if1 = c .before .before .if1 in
-    let args = c .before .before .before .before .before .before .before .before .before .before .before .before .before .before .before .before .before .before .args in
-    let pre = c .before .before .before .before .before .before .before .before .before .before .before .before .before .before .before .before .before .before .pre in
-    let few : seat-arcs .result ≤ 64 = omega (arith, if1 .left) in
-    let sat = seat-arcs .ensures .1 .1 few in
-    let there = rw (← seat-arcs .ensures .1 .0) at (seats-there (now (args .start)) (args .plan .instances) (args .plan .arcs) (args .plan .first) (now (args .file)) (now (args .incoming)) (args .plan .slash) (now (args .cells)) (now (args .entries)) (now (args .cells2)) (now (args .entries2)) (args .swap) (args .leaver) (now (args .leavertype)) (args .comer) (now (args .comertype)) (seat-arcs .last .1 .1 .1 .1 .1 .1 .1 .1 .1 .1 .1 .1 .1 .1 .0) (seat-arcs .last .1 .1 .1 .1 .1 .1 .1 .1 .1 .1 .1 .1 .1 .1 .1 .0) (pre .0 .arcs) sat) in
-    (there, few, search needs)
+slice-aggregate-run-chunk-2 : tie.Need-slice-aggregate-run-chunk-2
+slice-aggregate-run-chunk-2 c = search needs
 
-common-front-requires : tie.Need-common-front-requires
-common-front-requires c κs =
-    let seat-arcs = c .before .before .before .before .before .before .before .before .seat-arcs in
-    let if1 = c .before .before .before .before .before .if1 in
-    let args = c .before .before .before .before .before .before .before .before .before .before .before .before .before .before .before .before .before .before .before .before .before .args in
-    let pre = c .before .before .before .before .before .before .before .before .before .before .before .before .before .before .before .before .before .before .before .before .before .pre in
-    let few : seat-arcs .result ≤ 64 = omega (arith, if1 .left) in
-    let sat = seat-arcs .ensures .1 .1 few in
-    let there = rw (← seat-arcs .ensures .1 .0) at (seats-there (now (args .start)) (args .plan .instances) (args .plan .arcs) (args .plan .first) (now (args .file)) (now (args .incoming)) (args .plan .slash) (now (args .cells)) (now (args .entries)) (now (args .cells2)) (now (args .entries2)) (args .swap) (args .leaver) (now (args .leavertype)) (args .comer) (now (args .comertype)) (seat-arcs .last .1 .1 .1 .1 .1 .1 .1 .1 .1 .1 .1 .1 .1 .1 .0) (seat-arcs .last .1 .1 .1 .1 .1 .1 .1 .1 .1 .1 .1 .1 .1 .1 .1 .0) (pre .0 .arcs) sat) in
-    (there, few)
+run-chunk-requires : tie.Need-run-chunk-requires
+run-chunk-requires c κs =
+    let pre = c .before .before .before .before .before .before .before .before .before .before .before .before .before .before .before .before .before .before .before .before .before .before .before .pre in
+    let args = c .before .before .before .before .before .before .before .before .before .before .before .before .before .before .before .before .before .before .before .before .before .before .before .args in
+    let mark-both = c .before .before .before .before .before .before .before .before .before .before .before .mark-both in
+    let choose = c .before .before .before .before .before .before .before .choose in
+    (pre .0, chosen-order (now (args .start)) (args .plan .arcs) (args .plan .first) (mark-both .last .1 .1 .1 .1 .1 .1 .1 .1 .1 .1 .1 .1 .1 .1 .1 .0) 0 (choose .result .count) (choose .result .next) (choose .result .place) (choose .last .1 .1 .1 .1 .1 .0) (choose .ensures .1), choose .ensures .1 .6, length-replicate {A = ℕ} 73728 0, length-replicate {A = ℕ} 589824 0)
 
-slice-aggregate-run-seated : tie.Need-slice-aggregate-run-seated
-slice-aggregate-run-seated c = search needs
+better-requires : tie.Need-better-requires
+better-requires c κs = search needs
 
-slice-aggregate-run-seated-2 : tie.Need-slice-aggregate-run-seated-2
-slice-aggregate-run-seated-2 c = search needs
-
-run-seated-requires : tie.Need-run-seated-requires
-run-seated-requires c κs =
-    let seat-arcs = c .before .before .before .before .before .before .before .before .before .before .before .before .seat-arcs in
-    let if1 = c .before .before .before .before .before .before .before .before .before .if1 in
-    let args = c .before .before .before .before .before .before .before .before .before .before .before .before .before .before .before .before .before .before .before .before .before .before .before .before .before .args in
-    let pre = c .before .before .before .before .before .before .before .before .before .before .before .before .before .before .before .before .before .before .before .before .before .before .before .before .before .pre in
-    let common-front = c .before .before .before .common-front in
-    let load-seats = c .before .before .before .before .before .before .load-seats in
-    let few : seat-arcs .result ≤ 64 = omega (arith, if1 .left) in
-    let sat = seat-arcs .ensures .1 .1 few in
-    let there = rw (← seat-arcs .ensures .1 .0) at (seats-there (now (args .start)) (args .plan .instances) (args .plan .arcs) (args .plan .first) (now (args .file)) (now (args .incoming)) (args .plan .slash) (now (args .cells)) (now (args .entries)) (now (args .cells2)) (now (args .entries2)) (args .swap) (args .leaver) (now (args .leavertype)) (args .comer) (now (args .comertype)) (seat-arcs .last .1 .1 .1 .1 .1 .1 .1 .1 .1 .1 .1 .1 .1 .1 .0) (seat-arcs .last .1 .1 .1 .1 .1 .1 .1 .1 .1 .1 .1 .1 .1 .1 .1 .0) (pre .0 .arcs) sat) in
-    (pre .0 .search, pre .0 .ready, there, common-front .ensures, few, seat-arcs .ensures .0, load-seats .ensures .0)
-
-returns-2 : tie.Need-returns-2
-returns-2 c = search needs
+is-fault-requires : tie.Need-is-fault-requires
+is-fault-requires c κs = search needs
 
 slice-aggregate-write-seats : tie.Need-slice-aggregate-write-seats
 slice-aggregate-write-seats c = search needs
@@ -76,53 +85,70 @@ slice-aggregate-write-seats-2 c = search needs
 
 write-seats-requires : tie.Need-write-seats-requires
 write-seats-requires c κs =
-    let seat-arcs = c .before .before .before .before .before .before .before .before .before .before .before .before .before .before .before .before .before .before .before .seat-arcs in
-    let if1 = c .before .before .before .before .before .before .before .before .before .before .before .before .before .before .before .before .if1 in
-    let args = c .before .before .before .before .before .before .before .before .before .before .before .before .before .before .before .before .before .before .before .before .before .before .before .before .before .before .before .before .before .before .before .before .args in
-    let pre = c .before .before .before .before .before .before .before .before .before .before .before .before .before .before .before .before .before .before .before .before .before .before .before .before .before .before .before .before .before .before .before .before .pre in
-    let run-seated = c .before .before .before .before .before .before .run-seated in
-    let few : seat-arcs .result ≤ 64 = omega (arith, if1 .left) in
-    let sat = seat-arcs .ensures .1 .1 few in
-    let there = rw (← seat-arcs .ensures .1 .0) at (seats-there (now (args .start)) (args .plan .instances) (args .plan .arcs) (args .plan .first) (now (args .file)) (now (args .incoming)) (args .plan .slash) (now (args .cells)) (now (args .entries)) (now (args .cells2)) (now (args .entries2)) (args .swap) (args .leaver) (now (args .leavertype)) (args .comer) (now (args .comertype)) (seat-arcs .last .1 .1 .1 .1 .1 .1 .1 .1 .1 .1 .1 .1 .1 .1 .0) (seat-arcs .last .1 .1 .1 .1 .1 .1 .1 .1 .1 .1 .1 .1 .1 .1 .1 .0) (pre .0 .arcs) sat) in
-    (there, few, seat-arcs .ensures .0, run-seated .ensures .0, pre .1)
+    let args = c .before .before .before .before .before .before .before .before .before .before .before .before .before .before .before .before .before .before .before .before .before .before .before .before .before .before .before .before .before .before .before .before .before .args in
+    let choose = c .before .before .before .before .before .before .before .before .before .before .before .before .before .before .before .before .before .choose in
+    let pre = c .before .before .before .before .before .before .before .before .before .before .before .before .before .before .before .before .before .before .before .before .before .before .before .before .before .before .before .before .before .before .before .before .before .pre in
+    let mark-both = c .before .before .before .before .before .before .before .before .before .before .before .before .before .before .before .before .before .before .before .before .before .mark-both in
+    let run-chunk = c .before .before .before .before .before .before .before .before .before .run-chunk in
+    (order-there (now (args .start)) (args .plan .arcs) (args .plan .first) (choose .last .1 .1 .1 .1 .1 .0) (choose .result .count) (pre .0 .arcs .good) (chosen-order (now (args .start)) (args .plan .arcs) (args .plan .first) (mark-both .last .1 .1 .1 .1 .1 .1 .1 .1 .1 .1 .1 .1 .1 .1 .1 .0) 0 (choose .result .count) (choose .result .next) (choose .result .place) (choose .last .1 .1 .1 .1 .1 .0) (choose .ensures .1)), choose .ensures .1 .6, run-chunk .ensures .0, run-chunk .ensures .1, pre .1)
 
-same-length : tie.Need-same-length
-same-length c = search needs
+same-length-2 : tie.Need-same-length-2
+same-length-2 c = search needs
+
+returns-2 : tie.Need-returns-2
+returns-2 c =
+    let choose = c .before .before .before .before .before .before .before .before .before .before .before .before .before .before .before .before .before .before .before .before .choose in
+    let args = c .before .before .before .before .before .before .before .before .before .before .before .before .before .before .before .before .before .before .before .before .before .before .before .before .before .before .before .before .before .before .before .before .before .before .before .before .args in
+    let if1 = c .before .before .before .before .before .before .before .before .before .before .before .before .before .before .before .before .if1 in
+    let better = c .before .before .before .before .before .before .before .before .before .better in
+    let pre = c .before .before .before .before .before .before .before .before .before .before .before .before .before .before .before .before .before .before .before .before .before .before .before .before .before .before .before .before .before .before .before .before .before .before .before .before .pre in
+    let mark-both = c .before .before .before .before .before .before .before .before .before .before .before .before .before .before .before .before .before .before .before .before .before .before .before .before .mark-both in
+    let run-chunk = c .before .before .before .before .before .before .before .before .before .before .before .before .run-chunk in
+    let is-fault = c .before .before .before .before .before .before .before .before .is-fault in
+    let if2 = c .before .before .before .before .before .before .before .if2 in
+    let write-seats = c .before .before .write-seats in
+    let e : choose .result .next ≡ args .plan .arcs = omega (arith, choose .ensures .1 .2, if1 .left) in
+    let judged = arcs-end (now (args .start)) (args .plan .instances) (args .plan .arcs) (args .plan .first) (now (args .file)) (now (args .incoming)) (args .plan .slash) (now (args .cells)) (now (args .entries)) (now (args .cells2)) (now (args .entries2)) (args .swap) (args .leaver) (now (args .leavertype)) (args .comer) (now (args .comertype)) (args .own) (better .result) (rw (e, ← better .ensures) at (part-judged (now (args .start)) (args .plan .instances) (args .plan .arcs) (args .plan .first) (now (args .file)) (now (args .incoming)) (args .plan .slash) (now (args .cells)) (now (args .entries)) (now (args .cells2)) (now (args .entries2)) (args .swap) (args .leaver) (now (args .leavertype)) (args .comer) (now (args .comertype)) (pre .0 .ready) (mark-both .last .1 .1 .1 .1 .1 .1 .1 .1 .1 .1 .1 .1 .1 .1 .1 .0) (mark-both .ensures .1) 0 (choose .result .count) (choose .result .next) (choose .result .place) (choose .last .1 .1 .1 .1 .1 .0) (run-chunk .last .1 .1 .1 .1 .1 .1 .1 .1 .1 .1 .1 .1 .1 .1 .1 .1 .1 .0) (run-chunk .last .1 .1 .1 .1 .1 .1 .1 .1 .1 .1 .1 .1 .1 .1 .1 .1 .1 .1 .0) (choose .ensures .1) (run-chunk .ensures .2) (run-chunk .result) (run-chunk .ensures .3) (args .own) (args .own) (arcs-none (now (args .start)) (args .plan .instances) (args .plan .arcs) (args .plan .first) (now (args .file)) (now (args .incoming)) (args .plan .slash) (now (args .cells)) (now (args .entries)) (now (args .cells2)) (now (args .entries2)) (args .swap) (args .leaver) (now (args .leavertype)) (args .comer) (now (args .comertype)) (args .own)))) in
+    swapped-done (now (args .start)) (args .plan .instances) (args .plan .arcs) (args .plan .first) (now (args .file)) (now (args .incoming)) (args .plan .slash) (now (args .cells)) (now (args .entries)) (now (args .cells2)) (now (args .entries2)) (args .swap) (args .leaver) (now (args .leavertype)) (args .comer) (now (args .comertype)) (args .own) (now (args .current)) (better .result) _ (sym (is-fault .ensures) ∙ not-true _ (if2 .taken)) judged (written-end (now (args .start)) (args .plan .instances) (args .plan .arcs) (args .plan .first) (now (args .file)) (now (args .incoming)) (args .plan .slash) (now (args .cells)) (now (args .entries)) (now (args .cells2)) (now (args .entries2)) (args .swap) (args .leaver) (now (args .leavertype)) (args .comer) (now (args .comertype)) (now (args .current)) _ (rw e at (rw (← write-seats .ensures) at (part-written (now (args .start)) (args .plan .instances) (args .plan .arcs) (args .plan .first) (now (args .file)) (now (args .incoming)) (args .plan .slash) (now (args .cells)) (now (args .entries)) (now (args .cells2)) (now (args .entries2)) (args .swap) (args .leaver) (now (args .leavertype)) (args .comer) (now (args .comertype)) (pre .0 .ready) (mark-both .last .1 .1 .1 .1 .1 .1 .1 .1 .1 .1 .1 .1 .1 .1 .1 .0) (mark-both .ensures .1) 0 (choose .result .count) (choose .result .next) (choose .result .place) (choose .last .1 .1 .1 .1 .1 .0) (run-chunk .last .1 .1 .1 .1 .1 .1 .1 .1 .1 .1 .1 .1 .1 .1 .1 .1 .1 .0) (run-chunk .last .1 .1 .1 .1 .1 .1 .1 .1 .1 .1 .1 .1 .1 .1 .1 .1 .1 .1 .0) (choose .ensures .1) (run-chunk .ensures .2) (run-chunk .result) (run-chunk .ensures .3) (now (args .current)) (now (args .current)) (written-none (now (args .start)) (args .plan .instances) (args .plan .arcs) (args .plan .first) (now (args .file)) (now (args .incoming)) (args .plan .slash) (now (args .cells)) (now (args .entries)) (now (args .cells2)) (now (args .entries2)) (args .swap) (args .leaver) (now (args .leavertype)) (args .comer) (now (args .comertype)) (now (args .current)))))))
 
 returns-3 : tie.Need-returns-3
 returns-3 c =
-    let seat-arcs = c .before .before .before .before .before .before .before .before .before .before .before .before .before .before .before .before .before .before .before .before .before .before .seat-arcs in
-    let if1 = c .before .before .before .before .before .before .before .before .before .before .before .before .before .before .before .before .before .before .before .if1 in
-    let run-seated = c .before .before .before .before .before .before .before .before .before .run-seated in
-    let if2 = c .before .before .before .before .before .before .before .if2 in
-    let load-seats = c .before .before .before .before .before .before .before .before .before .before .before .before .before .before .before .before .load-seats in
-    let args = c .before .before .before .before .before .before .before .before .before .before .before .before .before .before .before .before .before .before .before .before .before .before .before .before .before .before .before .before .before .before .before .before .before .before .before .args in
-    let pre = c .before .before .before .before .before .before .before .before .before .before .before .before .before .before .before .before .before .before .before .before .before .before .before .before .before .before .before .before .before .before .before .before .before .before .before .pre in
-    let write-seats = c .before .before .write-seats in
-    let few : seat-arcs .result ≤ 64 = omega (arith, if1 .left) in
-    let sat = seat-arcs .ensures .1 .1 few in
-    let n = seat-arcs .ensures .1 .0 in
-    let through = run-seated .ensures .1 (not-false _ (if2 .left)) in
-    let loaded = load-seats .ensures .1 in
-    (seats-ran (now (args .start)) (args .plan .instances) (args .plan .arcs) (args .plan .first) (now (args .file)) (now (args .incoming)) (args .plan .slash) (now (args .cells)) (now (args .entries)) (now (args .cells2)) (now (args .entries2)) (args .swap) (args .leaver) (now (args .leavertype)) (args .comer) (now (args .comertype)) (seat-arcs .last .1 .1 .1 .1 .1 .1 .1 .1 .1 .1 .1 .1 .1 .1 .0) (seat-arcs .last .1 .1 .1 .1 .1 .1 .1 .1 .1 .1 .1 .1 .1 .1 .1 .0) (run-seated .last .1 .1 .1 .1 .1 .1 .1 .1 .1 .1 .1 .1 .1 .1 .0) (now (args .current)) (pre .0 .ready) sat (λ i h. through i (rw (← n) at h) (loaded i (rw (← n) at h))), rw (write-seats .ensures, n) (seats-written (now (args .start)) (args .plan .instances) (args .plan .arcs) (args .plan .first) (now (args .file)) (now (args .incoming)) (args .plan .slash) (now (args .cells)) (now (args .entries)) (now (args .cells2)) (now (args .entries2)) (args .swap) (args .leaver) (now (args .leavertype)) (args .comer) (now (args .comertype)) (seat-arcs .last .1 .1 .1 .1 .1 .1 .1 .1 .1 .1 .1 .1 .1 .1 .0) (seat-arcs .last .1 .1 .1 .1 .1 .1 .1 .1 .1 .1 .1 .1 .1 .1 .1 .0) (run-seated .last .1 .1 .1 .1 .1 .1 .1 .1 .1 .1 .1 .1 .1 .1 .0) (now (args .current)) (pre .0 .ready) sat (λ i h. through i (rw (← n) at h) (loaded i (rw (← n) at h)))))
+    let choose = c .before .before .before .before .before .before .before .before .before .before .before .before .before .choose in
+    let args = c .before .before .before .before .before .before .before .before .before .before .before .before .before .before .before .before .before .before .before .before .before .before .before .before .before .before .before .before .before .args in
+    let if1 = c .before .before .before .before .before .before .before .before .before .if1 in
+    let better = c .before .before .better in
+    let pre = c .before .before .before .before .before .before .before .before .before .before .before .before .before .before .before .before .before .before .before .before .before .before .before .before .before .before .before .before .before .pre in
+    let mark-both = c .before .before .before .before .before .before .before .before .before .before .before .before .before .before .before .before .before .mark-both in
+    let run-chunk = c .before .before .before .before .before .run-chunk in
+    let is-fault = c .before .is-fault in
+    let if2 = c .if2 in
+    let e : choose .result .next ≡ args .plan .arcs = omega (arith, choose .ensures .1 .2, if1 .left) in
+    let judged = arcs-end (now (args .start)) (args .plan .instances) (args .plan .arcs) (args .plan .first) (now (args .file)) (now (args .incoming)) (args .plan .slash) (now (args .cells)) (now (args .entries)) (now (args .cells2)) (now (args .entries2)) (args .swap) (args .leaver) (now (args .leavertype)) (args .comer) (now (args .comertype)) (args .own) (better .result) (rw (e, ← better .ensures) at (part-judged (now (args .start)) (args .plan .instances) (args .plan .arcs) (args .plan .first) (now (args .file)) (now (args .incoming)) (args .plan .slash) (now (args .cells)) (now (args .entries)) (now (args .cells2)) (now (args .entries2)) (args .swap) (args .leaver) (now (args .leavertype)) (args .comer) (now (args .comertype)) (pre .0 .ready) (mark-both .last .1 .1 .1 .1 .1 .1 .1 .1 .1 .1 .1 .1 .1 .1 .1 .0) (mark-both .ensures .1) 0 (choose .result .count) (choose .result .next) (choose .result .place) (choose .last .1 .1 .1 .1 .1 .0) (run-chunk .last .1 .1 .1 .1 .1 .1 .1 .1 .1 .1 .1 .1 .1 .1 .1 .1 .1 .0) (run-chunk .last .1 .1 .1 .1 .1 .1 .1 .1 .1 .1 .1 .1 .1 .1 .1 .1 .1 .1 .0) (choose .ensures .1) (run-chunk .ensures .2) (run-chunk .result) (run-chunk .ensures .3) (args .own) (args .own) (arcs-none (now (args .start)) (args .plan .instances) (args .plan .arcs) (args .plan .first) (now (args .file)) (now (args .incoming)) (args .plan .slash) (now (args .cells)) (now (args .entries)) (now (args .cells2)) (now (args .entries2)) (args .swap) (args .leaver) (now (args .leavertype)) (args .comer) (now (args .comertype)) (args .own)))) in
+    swapped-stop (now (args .start)) (args .plan .instances) (args .plan .arcs) (args .plan .first) (now (args .file)) (now (args .incoming)) (args .plan .slash) (now (args .cells)) (now (args .entries)) (now (args .cells2)) (now (args .entries2)) (args .swap) (args .leaver) (now (args .leavertype)) (args .comer) (now (args .comertype)) (args .own) (now (args .current)) (better .result) _ (sym (is-fault .ensures) ∙ not-false _ (if2 .left)) judged refl
 
 pub swap-seated-spec : {M : Type 1} → statement M
 swap-seated-spec =
     tie.close
     (tie.spec
-    slice-aggregate-seat-arcs
-    slice-aggregate-seat-arcs-2
-    seat-arcs-requires
+    slice-aggregate-mark-both
+    mark-both-requires
+    slice-aggregate-choose
+    slice-aggregate-choose-2
+    choose-requires
+    slice-aggregate-swap-chunks
+    slice-aggregate-swap-chunks-2
+    slice-aggregate-swap-chunks-3
+    swap-chunks-requires
+    same-length
     returns
-    slice-aggregate-load-seats
-    load-seats-requires
-    common-front-requires
-    slice-aggregate-run-seated
-    slice-aggregate-run-seated-2
-    run-seated-requires
-    returns-2
+    slice-aggregate-run-chunk
+    slice-aggregate-run-chunk-2
+    run-chunk-requires
+    better-requires
+    is-fault-requires
     slice-aggregate-write-seats
     slice-aggregate-write-seats-2
     write-seats-requires
-    same-length
+    same-length-2
+    returns-2
     returns-3)

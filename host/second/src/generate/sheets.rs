@@ -3,7 +3,7 @@
 use std::collections::BTreeMap;
 
 use super::texts::{any_time, name_with_dots};
-use super::world::{new_arc, LocalArc, Name, World};
+use super::world::{new_arc, LocalArc, Name, Size, World};
 use crate::kinds::{kind_of_number, Facts};
 use crate::names::full_name;
 use crate::random::Random;
@@ -12,7 +12,8 @@ use crate::sheet::{check_sheet, encode, Arc, ArcKey, Sheet, VALUES, VALUE_BYTES}
 /// A starting sheet for the world: now and then with an instance or arcs missing, or more arcs.
 pub fn sheet_of(random: &mut Random, world: &World) -> Sheet {
     let gaps = world.strays && random.once_in(3);
-    let filled = !random.once_in(3);
+    // With hundreds of entries some INCREMENT would nearly always meet an empty value: large worlds have theirs put in later.
+    let filled = world.size != Size::Small || !random.once_in(3);
     let mut sheet = Sheet::default();
     for instance in &world.instances {
         if gaps && random.once_in(15) {

@@ -3,7 +3,7 @@
 
 use std::borrow::Cow;
 
-use super::world::{edge, new_end, new_path, LocalArc, Name, Type, World};
+use super::world::{edge, new_end, new_path, LocalArc, Name, Size, Type, World};
 use crate::bytes::is_word_byte;
 use crate::kinds::{edge_word, Facts, Kind};
 use crate::random::Random;
@@ -39,7 +39,7 @@ pub fn file_tokens(random: &mut Random, world: &World) -> Tokens {
 }
 
 /// The header: its tokens, and the divider and time scale it sets.
-fn push_header(random: &mut Random, tokens: &mut Tokens) -> (u8, u32) {
+pub fn push_header(random: &mut Random, tokens: &mut Tokens) -> (u8, u32) {
     tokens.extend(words(&["(", "SDFVERSION", random.pick(&["\"4.0\"", "\"3.0\"", "\"\""]), ")"]));
     let rarity = if random.once_in(8) { 2 } else { 12 };
     for keyword in ["DESIGN", "DATE", "VENDOR", "PROGRAM", "VERSION"] {
@@ -112,15 +112,21 @@ pub fn cell_tokens(random: &mut Random, world: &World, divider: u8, power: u32) 
     let chosen = &world.types[type_number];
     let stray_type = world.strays && random.once_in(25);
     let type_text = if stray_type { b"STRAY" } else { chosen.text.as_slice() };
-    let mut tokens = words(&["(", "CELL", "(", "CELLTYPE"]);
-    tokens.push([b"\"", type_text, b"\""].concat().into());
-    tokens.extend(words(&[")", "(", "INSTANCE"]));
-    tokens.extend(path);
-    tokens.extend(words(&[")"]));
+    let mut tokens = head_tokens(type_text, path);
     let writer = Writer { world, chosen, divider, power };
     for _ in 0..random.below(3) {
         tokens.extend(writer.section(random));
     }
+    tokens.extend(words(&[")"]));
+    tokens
+}
+
+/// A cell as far as its sections.
+pub fn head_tokens(type_text: &[u8], path: Tokens) -> Tokens {
+    let mut tokens = words(&["(", "CELL", "(", "CELLTYPE"]);
+    tokens.push([b"\"", type_text, b"\""].concat().into());
+    tokens.extend(words(&[")", "(", "INSTANCE"]));
+    tokens.extend(path);
     tokens.extend(words(&[")"]));
     tokens
 }
@@ -140,11 +146,11 @@ fn addressed(random: &mut Random, world: &World, divider: u8) -> (usize, Tokens)
 }
 
 /// What the entries of one cell are made of.
-struct Writer<'w> {
-    world: &'w World,
-    chosen: &'w Type,
-    divider: u8,
-    power: u32,
+pub struct Writer<'w> {
+    pub world: &'w World,
+    pub chosen: &'w Type,
+    pub divider: u8,
+    pub power: u32,
 }
 
 impl Writer<'_> {
@@ -184,6 +190,11 @@ impl Writer<'_> {
                 _ => arc.edge1 = edge(random, arc.facts.edges[0]),
             }
         }
+        self.arc_entry(random, &arc)
+    }
+
+    /// The entry that addresses this arc.
+    pub fn arc_entry(&self, random: &mut Random, arc: &LocalArc) -> Tokens {
         let mut tokens = words(&["(", arc.facts.keyword]);
         tokens.extend(self.end(arc.edge1, &arc.end1));
         if arc.facts.ends == 2 {
@@ -196,10 +207,13 @@ impl Writer<'_> {
 
     /// A DEVICE entry that addresses at least this arc, with or without its port.
     fn device(&self, random: &mut Random, arc: &LocalArc) -> Tokens {
+        let port = (arc.end2.len() != 1 || random.once_in(2)).then_some(&arc.end2);
+        self.device_entry(random, port)
+    }
+
+    pub fn device_entry(&self, random: &mut Random, port: Option<&Name>) -> Tokens {
         let mut tokens = words(&["(", "DEVICE"]);
-        if arc.end2.len() != 1 || random.once_in(2) {
-            tokens.push(name_word(&arc.end2, self.divider));
-        }
+        tokens.extend(port.map(|port| name_word(port, self.divider)));
         tokens.extend(self.values(random, Kind::Device.facts()));
         tokens.extend(words(&[")"]));
         tokens
@@ -219,12 +233,14 @@ impl Writer<'_> {
             (false, 0 | 1) => random.from_to(1, 2),
             (false, _) => random.from_to(1, 6),
         };
-        (0..count).flat_map(|_| self.value(random, facts.signed)).collect()
+        // A very large cell touches an exact number of arcs, so each of its entries supplies something.
+        let sure = |number: usize| number == 0 && self.world.size == Size::VeryLarge;
+        (0..count).flat_map(|number| self.value(random, facts.signed, sure(number))).collect()
     }
 
-    fn value(&self, random: &mut Random, signed: bool) -> Tokens {
+    fn value(&self, random: &mut Random, signed: bool, sure: bool) -> Tokens {
         let mut tokens = words(&["("]);
-        match random.below(6) {
+        match if sure { 5 } else { random.below(6) } {
             0 => {}
             1 | 2 => {
                 let present = random.from_to(1, 7);
@@ -244,7 +260,9 @@ impl Writer<'_> {
     }
 
     fn number(&self, random: &mut Random, signed: bool) -> Vec<u8> {
-        if random.once_in(300) {
+        // Of thousands of numbers one would nearly always be such, and the text be refused for it.
+        let small = self.world.size == Size::Small;
+        if small && random.once_in(300) {
             const NEAR_TIMES: [&str; 8] = [
                 "1e99999999999999999999",
                 "1e-99999999999999999999",
@@ -258,7 +276,7 @@ impl Writer<'_> {
             return random.pick(&NEAR_TIMES).as_bytes().to_vec();
         }
         let size = any_time(random, self.world.calm);
-        let text = time_text(random, size, self.power);
+        let text = time_text(random, size, self.power, small);
         let sign = match signed {
             true => random.pick(&["", "", "-", "+", "-"]),
             false => "",
@@ -281,8 +299,8 @@ pub fn any_time(random: &mut Random, calm: bool) -> u64 {
 }
 
 /// A text for a time, exact: the digits, moved by a point and an exponent so that they stand for
-/// the time in units of ten to the `power` femtoseconds.
-fn time_text(random: &mut Random, time: u64, power: u32) -> Vec<u8> {
+/// the time in units of ten to the `power` femtoseconds. It may be too long only where `may_be_long`.
+fn time_text(random: &mut Random, time: u64, power: u32, may_be_long: bool) -> Vec<u8> {
     let mut digits = time.to_string();
     let mut behind_point = match random.below(4) {
         0 => random.below(digits.len() + 3),
@@ -290,7 +308,7 @@ fn time_text(random: &mut Random, time: u64, power: u32) -> Vec<u8> {
     };
     let mut exponent = behind_point as i64 - i64::from(power);
     if random.once_in(6) {
-        let zeros = if random.once_in(60) { random.from_to(990, 1_030) } else { random.from_to(1, 3) };
+        let zeros = if may_be_long && random.once_in(60) { random.from_to(990, 1_030) } else { random.from_to(1, 3) };
         digits.push_str(&"0".repeat(zeros));
         exponent -= zeros as i64;
     }
@@ -322,7 +340,7 @@ fn time_text(random: &mut Random, time: u64, power: u32) -> Vec<u8> {
 }
 
 /// A name as written with this divider.
-fn name_word(name: &Name, divider: u8) -> Token {
+pub fn name_word(name: &Name, divider: u8) -> Token {
     name.join(&divider).into()
 }
 
@@ -331,7 +349,7 @@ pub fn name_with_dots(name: &Name) -> Vec<u8> {
     name.join(&b'.')
 }
 
-fn words(words: &[&'static str]) -> Tokens {
+pub fn words(words: &[&'static str]) -> Tokens {
     words.iter().map(|word| word.as_bytes().into()).collect()
 }
 

@@ -28,6 +28,14 @@ pub struct Instance {
     pub type_number: usize,
 }
 
+/// How many entries the cells of a world's texts have: a few, hundreds, or more than 4,096.
+#[derive(Clone, Copy, PartialEq, Eq)]
+pub enum Size {
+    Small,
+    Large,
+    VeryLarge,
+}
+
 pub struct World {
     pub types: Vec<Type>,
     pub instances: Vec<Instance>,
@@ -35,6 +43,7 @@ pub struct World {
     pub calm: bool,
     /// Whether names of instances, types and arcs now and then fit nothing.
     pub strays: bool,
+    pub size: Size,
 }
 
 impl World {
@@ -47,7 +56,8 @@ impl World {
                 instances.push(Instance { path, type_number: random.below(types.len()) });
             }
         }
-        let mut world = World { types, instances, calm: !random.once_in(4), strays: random.once_in(3) };
+        let (calm, strays) = (!random.once_in(4), random.once_in(3));
+        let mut world = World { types, instances, calm, strays, size: Size::Small };
         if random.once_in(150) {
             world.lengthen(random);
         }
@@ -82,6 +92,10 @@ pub fn new_arc(random: &mut Random) -> LocalArc {
         0 => Kind::Iopath.facts(),
         _ => KINDS.iter().filter(|facts| facts.kind != Kind::Device).nth(random.below(14)).unwrap_or(&KINDS[0]),
     };
+    new_arc_of(random, facts)
+}
+
+pub fn new_arc_of(random: &mut Random, facts: &'static Facts) -> LocalArc {
     let end2 = if facts.ends == 2 { new_end(random) } else { Name::new() };
     LocalArc {
         facts,

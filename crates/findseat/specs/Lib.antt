@@ -1,0 +1,2 @@
+pub mod Findseat
+pub mod Laws

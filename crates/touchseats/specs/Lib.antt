@@ -1,0 +1,2 @@
+pub mod Touchseats
+pub mod Laws
