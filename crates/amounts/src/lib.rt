@@ -1,10 +1,9 @@
 // The values of one arc, and what an entry supplies to them. A value is a word as on the sheet and in the tables: femtoseconds in two's
 // complement, and the least number for one that is empty or absent.
 ghost use mathlib.Core.Path.{_≡_};
-ghost use mathlib.Core.Bool.{Bool};
-ghost use Prim.Native.Nat.{ℕ, _+_, _*_, _≤_, _<_};
+ghost use Prim.Native.Nat.{_+_, _*_, _≤_, _<_};
 ghost use lib.ListN.{length};
-ghost use Rattle.amounts.specs.Amounts.{near, sum, refusal, changed, lesser, arcRefusal, valueWritten, arcWritten, choice, valueRow, expanded};
+ghost use Rattle.amounts.specs.Amounts.{near, refusal, changed, lesser, arcRefusal, valueWritten, arcWritten, choice, valueRow, expanded};
 
 const EMPTY: u64 = 0x8000_0000_0000_0000;
 

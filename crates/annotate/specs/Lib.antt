@@ -1,10 +1,3 @@
-pub mod Meaning
-pub mod Whom
-pub mod Entries
-pub mod Cells
-pub mod CellList
-pub mod EntryLaws
-pub mod CellLaws
 pub mod TextLaws
 pub mod Statements
 pub mod Devices

@@ -9,14 +9,14 @@ use mathlib.Core.Logic.{_↔_}
 use Rattle.classes.specs.Choice.{or}
 use Rattle.grammar.specs.Reading.{At}
 use Rattle.sheetlaws.specs.Sheet.{Sheet}
-use Rattle.history.specs.Events.{Value, Supply, nothing, replace, add, Held, holds, step, next, history, Event, sheet, anyOf, supplied, supply}
+use Rattle.history.specs.Events.{Value, Supply, nothing, replace, add, holds, step, next, history, Event, sheet, anyOf, supplied, supply}
 use Rattle.history.specs.EventLaws.{clash, holds-inj}
 use Rattle.history.specs.Sheet.{Slot, Values, fileEvents}
 use Rattle.history.specs.Sheet as history
 use Rattle.history.specs.Demands.{demand-2}
 use Rattle.slots.specs.Slots.{recordsOf, valuesOf}
-use Rattle.annotate.specs.declared.Annotated.{Annotated}
-use Rattle.annotate.specs.Meaning.{said, Course, AnnotateIs}
+use Rattle.meaning.specs.declared.Annotated.{Annotated}
+use Rattle.meaning.specs.Meaning.{said, Course, AnnotateIs}
 
 -- HISTORY HOLDS, demand 2's second half: annotating the sheet s with the text that was read as st gives the values v exactly if no cell gets 12 or 13 and
 -- no entry 14, and in every slot the history over all entries, in file order and from the starting value, ends without 15 or 16, in v

@@ -10,8 +10,8 @@ use Rattle.wire.specs.Wire.{Bytes}
 use Rattle.names.specs.Order.{sameText}
 use Rattle.names.specs.Name.{sameName, both}
 use Rattle.names.specs.Laws.{name-exactly, same-self}
-use Rattle.sheetform.specs.Form.{pathAt, typeAt, checkOf}
-use Rattle.sheetform.specs.declared.SheetCheck.the-variants.{Good}
+use Rattle.sheetparts.specs.Form.{pathAt, typeAt, checkOf}
+use Rattle.sheetparts.specs.declared.SheetCheck.the-variants.{Good}
 use Rattle.sheetlaws.specs.Sheet.{inEnd, nth}
 use Rattle.sheet.specs.Find.{findInstance, instance-found, instance-absent}
 use Rattle.sheet.specs.declared.Found.the-variants.{At, Nothing}

@@ -12,8 +12,8 @@ use lib.Seq.{paste}
 use borrow.Author.Tests.{ltb-true, ltb-false, leb-true, eqb-true, eqb-false, lt-ltb, le-ltb}
 use Rattle.classes.specs.Choice.{pick, and, or}
 use Rattle.wire.specs.Wire.{Bytes, be64, beBytes}
-use Rattle.sheetform.specs.Form.{valuesAt, checkOf}
-use Rattle.sheetform.specs.declared.SheetCheck.the-variants.{Good}
+use Rattle.sheetparts.specs.Form.{valuesAt, checkOf}
+use Rattle.sheetparts.specs.declared.SheetCheck.the-variants.{Good}
 use Rattle.sheetlaws.specs.Sheet.{place}
 use Rattle.history.specs.Events.{limit, Value, holds, fails, summed, step, final, failsWith, anyOf}
 use Rattle.history.specs.EventLaws.{any-cong}

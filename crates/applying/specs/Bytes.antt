@@ -1,14 +1,14 @@
 -- What the program does to the bytes of a sheet for one entry: `b` is the starting sheet, in which everything is looked up, and `out` the sheet
 -- that is written.
 -- Assumes nothing.
-use Prim.Native.Nat.{ℕ, zero, suc, _+_, _*_}
-use mathlib.Core.Bool.{Bool, true, false}
+use Prim.Native.Nat.{ℕ, zero, suc}
+use mathlib.Core.Bool.{Bool, false}
 use mathlib.Core.List.{List}
 use lib.Dec.{eqb}
 use Rattle.classes.specs.Choice.{pick, and, or}
 use Rattle.names.specs.Order.{sameText}
 use Rattle.names.specs.Name.{canon, full, sameName, oneBelow, partOf}
-use Rattle.sheetform.specs.Form.{keyAt, valuesAt, pathAt, typeAt}
+use Rattle.sheetparts.specs.Form.{keyAt, valuesAt, pathAt, typeAt}
 use Rattle.sheetlaws.specs.Sheet.{inEnd, nth, place}
 use Rattle.sheet.specs.Find.{wanted, findArc}
 use Rattle.sheet.specs.declared.Found.{Found}

@@ -14,8 +14,8 @@ use Rattle.wire.specs.Wire.{Bytes}
 use Rattle.names.specs.Order.{sameText}
 use Rattle.names.specs.Name.{oneBelow, both}
 use Rattle.names.specs.Laws.{name-exactly, path-determined}
-use Rattle.sheetform.specs.Form.{keyAt, pathAt, typeAt, checkOf}
-use Rattle.sheetform.specs.declared.SheetCheck.the-variants.{Good}
+use Rattle.sheetparts.specs.Form.{keyAt, pathAt, typeAt, checkOf}
+use Rattle.sheetparts.specs.declared.SheetCheck.the-variants.{Good}
 use Rattle.sheetlaws.specs.Sheet.{place}
 use Rattle.grammar.specs.Meaning.{Item}
 use Rattle.history.specs.Events.{anyOf, final, step}

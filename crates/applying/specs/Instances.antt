@@ -12,9 +12,9 @@ use Rattle.classes.specs.Choice.{pick, and}
 use Rattle.wire.specs.Wire.{Bytes}
 use Rattle.names.specs.Name.{canon, full, sameName, oneBelow, partOf}
 use Rattle.names.specs.Laws.{same-self}
-use Rattle.sheetform.specs.Form.{keyAt, valuesAt, pathAt, oneEnd, checkOf}
-use Rattle.sheetform.specs.Form as form
-use Rattle.sheetform.specs.declared.SheetCheck.the-variants.{Good}
+use Rattle.sheetparts.specs.Form.{keyAt, valuesAt, pathAt, oneEnd, checkOf}
+use Rattle.sheetparts.specs.Form as form
+use Rattle.sheetparts.specs.declared.SheetCheck.the-variants.{Good}
 use Rattle.sheetlaws.specs.Sheet.{place}
 use Rattle.sheet.specs.Find.{secondWanted, wanted, arc-found, arc-absent}
 use Rattle.sheet.specs.declared.Found.{Found}

@@ -1,16 +1,15 @@
 -- One entry of a cell, taken instance by instance and arc by arc: its refusal, and what it leaves in each slot.
 -- Assumes nothing.
-use Prim.Native.Nat.{ℕ, zero, suc, _<_, _≤_}
-use mathlib.Core.Path.{_≡_, refl, sym, ap, _∙_}
+use Prim.Native.Nat.{ℕ, suc}
+use mathlib.Core.Path.{_≡_, refl, sym, _∙_}
 use mathlib.Core.Bool.{Bool, true, false, not}
-use mathlib.Core.List.{List, [], _∷_, _++_, map}
+use mathlib.Core.List.{List, [], _∷_, _++_}
 use mathlib.Core.Option.{Option, none, some}
-use native.Mathlib.Omega.{arith}
-use lib.Dec.{eqb, leb}
+use lib.Dec.{eqb}
 use lib.ListN.{length, getElem?}
 use Rattle.classes.specs.Choice.{pick, and, or}
 use Rattle.amounts.specs.Laws.{firstOf}
-use Rattle.history.specs.Events.{Value, Supply, nothing, Held, holds, fails, failsWith, step, final, anyOf, when, orElse, stuck, judge}
+use Rattle.history.specs.Events.{Value, Supply, nothing, failsWith, step, final, anyOf, when, orElse, stuck, judge}
 use Rattle.history.specs.EventLaws.{any-cong}
 use Rattle.history.specs.Sheet.{Instance, Key, Records, Slot, Values, Entry, Cell, each, matches, applies, addresses, lacks, given, ifArc, giving, amount, rows, entryEvent, below, arcSlots, slotsOf}
 

@@ -8,11 +8,11 @@ use lib.Dec.{eqb}
 use lib.ListN.{take, drop}
 use Rattle.classes.specs.Choice.{pick, and}
 use Rattle.names.specs.Name.{canon, partOf}
-use Rattle.sheetform.specs.Form.{oneEnd}
+use Rattle.sheetparts.specs.Form.{oneEnd}
 use Rattle.grammar.specs.declared.Cell as read
 use Rattle.grammar.specs.Meaning.{Item}
 use Rattle.amounts.specs.Expand.{tripleOf}
-use Rattle.history.specs.Sheet.{Group, absolute, increment, check, End, Entry, Part, at, every, Cell, device}
+use Rattle.history.specs.Sheet.{Group, absolute, increment, check, Entry, Part, at, every, Cell, device}
 
 -- 'group (A, I or T)': the letter's byte
 unfoldable pub groupOf : ℕ → Group

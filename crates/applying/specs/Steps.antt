@@ -1,17 +1,16 @@
 -- One entry of a cell, applied to the bytes of a sheet: it is refused as the history says, or leaves what the history leaves.
 -- Assumes nothing.
 use Prim.Native.Nat.{ℕ, _<_}
-use mathlib.Core.Path.{_≡_, refl, sym, ap, _∙_, subst}
+use mathlib.Core.Path.{_≡_, sym, _∙_, subst}
 use mathlib.Core.Bool.{Bool, true}
 use mathlib.Core.List.{List}
 use lib.Dec.{eqb}
-use lib.ListN.{length}
-use Rattle.classes.specs.Choice.{pick, and}
+use Rattle.classes.specs.Choice.{and}
 use Rattle.wire.specs.Wire.{Bytes}
 use Rattle.names.specs.Order.{sameText}
 use Rattle.grammar.specs.Meaning.{Item}
-use Rattle.sheetform.specs.Form.{checkOf, pathAt, typeAt}
-use Rattle.sheetform.specs.declared.SheetCheck.the-variants.{Good}
+use Rattle.sheetparts.specs.Form.{checkOf, pathAt, typeAt}
+use Rattle.sheetparts.specs.declared.SheetCheck.the-variants.{Good}
 use Rattle.history.specs.Events.{step, final, anyOf}
 use Rattle.history.specs.Sheet.{Instance, Slot, Values, Entry, Cell, at, every, applies, matches, entryEvent}
 use Rattle.history.specs.Ranges.{InRange}
@@ -19,7 +18,7 @@ use Rattle.slots.specs.Slots.{spelled, sheetAt}
 use Rattle.slots.specs.Spelled.{spelled-same}
 use Rattle.applying.specs.Says.{entryOf}
 use Rattle.applying.specs.Judged.{refusalOf, changedAt, arcIs, applied}
-use Rattle.applying.specs.Bytes.{refusalIn, writtenIn, appliedIn, refusalEvery, writtenEvery, appliedEvery}
+use Rattle.applying.specs.Bytes.{refusalIn, appliedIn, refusalEvery, appliedEvery}
 use Rattle.applying.specs.Arcs.{Expanded}
 use Rattle.applying.specs.Arcs as arcs
 use Rattle.applying.specs.Instances.{Fine, ArcLaws, recordsAt, in-refusal, in-written}

@@ -16,8 +16,8 @@ use Rattle.names.specs.Name.{canon, partOf}
 use Rattle.grammar.specs.declared.Cell as read
 use Rattle.grammar.specs.Meaning.{Item}
 use Rattle.sound.specs.Sound.{Each, SoundItem, total}
-use Rattle.sheetform.specs.Form.{checkOf, typeAt}
-use Rattle.sheetform.specs.declared.SheetCheck.the-variants.{Good}
+use Rattle.sheetparts.specs.Form.{checkOf, typeAt}
+use Rattle.sheetparts.specs.declared.SheetCheck.the-variants.{Good}
 use Rattle.sheetlaws.specs.Sheet.{place}
 use Rattle.sheet.specs.Find.{findInstance}
 use Rattle.sheet.specs.declared.Found.{Found}
@@ -31,12 +31,12 @@ use Rattle.applying.specs.Says.{cellOf, cellsOf, partAt, nameAt}
 use Rattle.applying.specs.Rows.{cell-is}
 use Rattle.applying.specs.Instances.{recordsAt}
 use Rattle.applying.specs.Addressed.{cell-absent, cell-found, cell-differs}
-use Rattle.annotate.specs.declared.Whom.{Whom}
-use Rattle.annotate.specs.declared.Whom.the-variants.{One, Every, Nobody}
-use Rattle.annotate.specs.Whom.{whomOf, typedAs}
-use Rattle.annotate.specs.Entries.{EntriesAre}
-use Rattle.annotate.specs.Cells.{entriesBefore, noCell, CellsAre}
-use Rattle.annotate.specs.CellList.{each-at, before, before-is, cellNo, cells-at, cells-next, file-append, entries-part}
+use Rattle.meaning.specs.declared.Whom.{Whom}
+use Rattle.meaning.specs.declared.Whom.the-variants.{One, Every, Nobody}
+use Rattle.meaning.specs.Whom.{whomOf, typedAs}
+use Rattle.meaning.specs.Entries.{EntriesAre}
+use Rattle.meaning.specs.Cells.{entriesBefore, noCell, CellsAre}
+use Rattle.meaning.specs.CellList.{each-at, before, before-is, cellNo, cells-at, cells-next, file-append, entries-part}
 use Rattle.patching.specs.Where.{Where, at}
 use Rattle.patching.specs.Group.{stepped, groupLeft}
 use Rattle.patching.specs.GroupLaws.{quiet, quiet-stepped}

@@ -17,8 +17,8 @@ use Rattle.names.specs.Name.{partOf}
 use Rattle.grammar.specs.declared.Cell as read
 use Rattle.grammar.specs.Meaning.{Item}
 use Rattle.sound.specs.Sound.{SoundItem, total}
-use Rattle.sheetform.specs.Form.{checkOf}
-use Rattle.sheetform.specs.declared.SheetCheck.the-variants.{Good}
+use Rattle.sheetparts.specs.Form.{checkOf}
+use Rattle.sheetparts.specs.declared.SheetCheck.the-variants.{Good}
 use Rattle.sheetlaws.specs.Sheet.{place}
 use Rattle.views.specs.Views.{cellAt}
 use Rattle.history.specs.Events.{Event}
@@ -28,11 +28,11 @@ use Rattle.history.specs.Sheet.{Slot, Values, Cell, arcSlots, cellEvent, entryE
 use Rattle.applying.specs.Says.{entryOf, cellOf, cellsOf}
 use Rattle.applying.specs.Rows.{CellIs, cell-is}
 use Rattle.applying.specs.Instances.{recordsAt}
-use Rattle.annotate.specs.declared.Whom.{Whom}
-use Rattle.annotate.specs.Whom.{whomOf}
-use Rattle.annotate.specs.Entries.{noItem, EntriesAre}
-use Rattle.annotate.specs.Cells.{entriesBefore, noCell, CellsAre}
-use Rattle.annotate.specs.CellList.{each-at, before, before-is, cellNo, entries-part}
+use Rattle.meaning.specs.declared.Whom.{Whom}
+use Rattle.meaning.specs.Whom.{whomOf}
+use Rattle.meaning.specs.Entries.{noItem, EntriesAre}
+use Rattle.meaning.specs.Cells.{entriesBefore, noCell, CellsAre}
+use Rattle.meaning.specs.CellList.{each-at, before, before-is, cellNo, entries-part}
 use Rattle.patching.specs.Where.{Where, at}
 use Rattle.patching.specs.Group.{numberHere, stepped, groupFault, groupLeft}
 use Rattle.patching.specs.GroupLaws.{shifted, fault-append-none, fault-append-some}

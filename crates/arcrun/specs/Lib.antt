@@ -1,8 +1,5 @@
-pub mod Only
-pub mod Touch
 pub mod Run
 pub mod RunLaws
 pub mod CellRuns
 pub mod Late
 pub mod TouchLaws
-pub mod Turns

@@ -1,19 +1,19 @@
 -- The 18 values of one arc, run through the entries of cells: bytes, and the history that they stand for.
 -- Assumes nothing.
-use Prim.Native.Nat.{ℕ, zero, suc, _+_, _*_, _<_, _≤_}
+use Prim.Native.Nat.{ℕ, _+_, _<_, _≤_}
 use mathlib.Core.Path.{_≡_}
 use mathlib.Core.Bool.{Bool, true, false}
-use mathlib.Core.List.{List, [], map}
+use mathlib.Core.List.{List, map}
 use mathlib.Core.Option.{none, some}
 use lib.Dec.{eqb}
-use lib.ListN.{length, getElem?, take, drop}
+use lib.ListN.{getElem?, take, drop}
 use Rattle.classes.specs.Choice.{pick}
 use Rattle.wire.specs.Wire.{Bytes}
 use Rattle.grammar.specs.declared.Cell as read
 use Rattle.grammar.specs.Meaning.{Item}
 use Rattle.names.specs.Order.{sameText}
-use Rattle.sheetform.specs.Form.{checkOf, pathAt, typeAt}
-use Rattle.sheetform.specs.declared.SheetCheck.the-variants.{Good}
+use Rattle.sheetparts.specs.Form.{checkOf, pathAt, typeAt}
+use Rattle.sheetparts.specs.declared.SheetCheck.the-variants.{Good}
 use Rattle.sheetlaws.specs.Sheet.{place, inEnd, nth}
 use Rattle.sound.specs.Sound.{total}
 use Rattle.views.specs.Views.{headAt}
@@ -25,16 +25,16 @@ use Rattle.history.specs.Sheet.{every, Slot, Values, Cell, arcSlots, cellNumber
 use Rattle.applying.specs.Says.{entryOf, cellOf, cellsOf}
 use Rattle.applying.specs.Rows.{CellIs}
 use Rattle.applying.specs.Instances.{recordsAt}
-use Rattle.annotate.specs.declared.Whom.{Whom}
-use Rattle.annotate.specs.declared.Whom.the-variants.{One, Every, Nobody}
-use Rattle.annotate.specs.Entries.{rowsAt, EntriesAre}
-use Rattle.annotate.specs.Cells.{CellsAre}
+use Rattle.meaning.specs.declared.Whom.{Whom}
+use Rattle.meaning.specs.declared.Whom.the-variants.{One, Every, Nobody}
+use Rattle.meaning.specs.Entries.{rowsAt, EntriesAre}
+use Rattle.meaning.specs.Cells.{CellsAre}
 use Rattle.patching.specs.Where.{Where, at}
 use Rattle.patching.specs.Group.{groupFault, groupLeft}
 use Rattle.patching.specs.Scratch.{masked, Holds18, Flags}
 use Rattle.arcrun.specs.declared.Least.{Least}
 use Rattle.arcrun.specs.declared.Least.the-variants as least
-use Rattle.arcrun.specs.Touch.{meantFor}
+use Rattle.meant.specs.Touch.{meantFor}
 
 -- one entry: its refusal, and the state behind it
 module _ (b text : List ℕ) (slash : Bool) (n : ℕ) (t : List ℕ) (row : ℕ) (whom : Whom) (type : List ℕ) (q : ℕ) (flags st : List ℕ) where

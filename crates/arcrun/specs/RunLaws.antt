@@ -14,8 +14,8 @@ use lib.Seq.{take-all, length-take-le}
 use borrow.Author.Tests.{eqb-true, eq-eqb, ne-eqb}
 use Rattle.classes.specs.Choice.{pick, and}
 use Rattle.wire.specs.Wire.{Bytes}
-use Rattle.sheetform.specs.Form.{checkOf}
-use Rattle.sheetform.specs.declared.SheetCheck.the-variants.{Good}
+use Rattle.sheetparts.specs.Form.{checkOf}
+use Rattle.sheetparts.specs.declared.SheetCheck.the-variants.{Good}
 use Rattle.sheetlaws.specs.Sheet.{place}
 use Rattle.grammar.specs.Meaning.{Item}
 use Rattle.sound.specs.Sound.{SoundItem}
@@ -33,10 +33,10 @@ use Rattle.applying.specs.Says.{groupOf, entryOf}
 use Rattle.applying.specs.Judged.{supply, arcIs, given-is}
 use Rattle.applying.specs.Rows.{EntryIs, head-is, item-expanded, timely}
 use Rattle.applying.specs.Instances.{recordsAt}
-use Rattle.annotate.specs.declared.Whom.{Whom}
-use Rattle.annotate.specs.declared.Whom.the-variants.{One, Every, Nobody}
-use Rattle.annotate.specs.CellList.{each-at}
-use Rattle.annotate.specs.Entries.{rowsAt, noItem, EntriesAre}
+use Rattle.meaning.specs.declared.Whom.{Whom}
+use Rattle.meaning.specs.declared.Whom.the-variants.{One, Every, Nobody}
+use Rattle.meaning.specs.CellList.{each-at}
+use Rattle.meaning.specs.Entries.{rowsAt, noItem, EntriesAre}
 use Rattle.patching.specs.Where.{Where, at}
 use Rattle.patching.specs.Group.{failsHere, numberHere, stepped, groupFault, groupLeft}
 use Rattle.patching.specs.GroupLaws.{shifted, left-append, fault-append-none, fault-append-some, quiet, quiet-stepped, group-in-range}
@@ -44,7 +44,7 @@ use Rattle.patching.specs.Scratch.{masked, Holds18, Flags, scratch-refusal, scr
 use Rattle.patching.specs.Meant.{meant-one, meant-every, meant-none}
 use Rattle.arcrun.specs.declared.Least.{Least}
 use Rattle.arcrun.specs.declared.Least.the-variants as least
-use Rattle.arcrun.specs.Touch.{meantFor}
+use Rattle.meant.specs.Touch.{meantFor}
 use Rattle.arcrun.specs.Run.{entryNumber, entryState, Ran, Of, EntriesRan}
 
 -- 1. The slots of an arc, and what its 144 bytes hold

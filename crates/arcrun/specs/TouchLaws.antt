@@ -14,8 +14,8 @@ use Rattle.wire.specs.Wire.{Bytes}
 use Rattle.grammar.specs.declared.Cell as read
 use Rattle.grammar.specs.Meaning.{Item}
 use Rattle.sound.specs.Sound.{SoundItem, total}
-use Rattle.sheetform.specs.Form.{checkOf}
-use Rattle.sheetform.specs.declared.SheetCheck.the-variants.{Good}
+use Rattle.sheetparts.specs.Form.{checkOf}
+use Rattle.sheetparts.specs.declared.SheetCheck.the-variants.{Good}
 use Rattle.sheetlaws.specs.Sheet.{place}
 use Rattle.views.specs.Views.{headAt}
 use Rattle.history.specs.Events.{Supply, nothing, supplied, anyOf, Event, affected}
@@ -27,15 +27,15 @@ use Rattle.applying.specs.Says.{entryOf, cellOf, cellsOf}
 use Rattle.applying.specs.Judged.{any-append, arcIs, supply, given-is}
 use Rattle.applying.specs.Rows.{EntryIs, head-is, item-expanded}
 use Rattle.applying.specs.Instances.{recordsAt}
-use Rattle.annotate.specs.declared.Whom.{Whom}
-use Rattle.annotate.specs.declared.Whom.the-variants.{One, Every, Nobody}
-use Rattle.annotate.specs.Entries.{rowsAt, noItem, EntriesAre}
-use Rattle.annotate.specs.CellList.{each-at, before}
+use Rattle.meaning.specs.declared.Whom.{Whom}
+use Rattle.meaning.specs.declared.Whom.the-variants.{One, Every, Nobody}
+use Rattle.meaning.specs.Entries.{rowsAt, noItem, EntriesAre}
+use Rattle.meaning.specs.CellList.{each-at, before}
 use Rattle.patching.specs.Where.{Where, at}
 use Rattle.patching.specs.Meant.{meant-none, meant-one, meant-every}
 use Rattle.patching.specs.Scratch.{Flags, touchedFlags, touch-flags}
 use Rattle.patching.specs.Own.{length-events}
-use Rattle.arcrun.specs.Touch.{meantFor, entriesTouched}
+use Rattle.meant.specs.Touch.{meantFor, entriesTouched}
 use Rattle.arcrun.specs.Run.{Of}
 
 -- 1. One entry

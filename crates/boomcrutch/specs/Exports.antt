@@ -10,19 +10,20 @@ use Rattle.classes.specs.Choice.{pick}
 use Rattle.grammar.specs.Machine.{Res, bad}
 use Rattle.grammar.specs.Reading.{At}
 use Rattle.grammar.specs.Outcome.{readCell}
-use Rattle.reader.specs.declared.Answer.{Answer}
-use Rattle.reader.specs.declared.Answer.the-variants as answer
+use Rattle.readcells.specs.declared.Answer.{Answer}
+use Rattle.readcells.specs.declared.Answer.the-variants as answer
 use Rattle.reader.specs.declared.FileRead.{FileRead}
-use Rattle.reader.specs.Files.{answerOf, cellsLeft, entriesLeft, slashOf, unitOf, textsOf, FileIs}
-use Rattle.sheetform.specs.declared.SheetCheck.{SheetCheck}
-use Rattle.sheetform.specs.declared.SheetCheck.the-variants as sheet
+use Rattle.tables.specs.Left.{cellsLeft, entriesLeft}
+use Rattle.reader.specs.Files.{answerOf, slashOf, unitOf, textsOf, FileIs}
+use Rattle.sheetparts.specs.declared.SheetCheck.{SheetCheck}
+use Rattle.sheetparts.specs.declared.SheetCheck.the-variants as sheet
 use Rattle.boomcrutch.specs.declared.ReadNumbers.{ReadNumbers}
 use Rattle.boomcrutch.specs.declared.SheetNumbers.{SheetNumbers}
 use Rattle.boomcrutch.specs.declared.ResultNumbers.{ResultNumbers}
-use Rattle.annotate.specs.declared.Annotated.{Annotated}
-use Rattle.annotate.specs.declared.Annotated.the-variants as annotated
-use Rattle.annotate.specs.Meaning.{Course, AnnotateIs, cellsOut, entriesOut, outOf}
-use Rattle.annotate.specs.Meaning as meaning
+use Rattle.meaning.specs.declared.Annotated.{Annotated}
+use Rattle.meaning.specs.declared.Annotated.the-variants as annotated
+use Rattle.meaning.specs.Meaning.{Course, AnnotateIs, cellsOut, entriesOut, outOf}
+use Rattle.meaning.specs.Meaning as meaning
 use Rattle.swap.specs.declared.Patched.{Patched}
 use Rattle.swap.specs.declared.Patched.the-variants as patched
 use Rattle.patch.specs.Meaning as patching

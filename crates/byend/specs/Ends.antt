@@ -9,12 +9,11 @@ use native.Mathlib.Omega.{arith}
 use lib.ListN.{length, getD, set, take, drop, length-append, length-drop, length-take, List·getD-append}
 use lib.Seq.{getD-take, getD-set-same}
 use borrow.Author.Tests.{eqb-true}
-use Rattle.classes.specs.Choice.{and}
-use Rattle.names.specs.Shape.{escapes}
+use Rattle.nameshape.specs.Shape.{escapes}
 use Rattle.names.specs.Order.{sameText}
 use Rattle.names.specs.Orders.{cmp-1}
 use Rattle.names.specs.Name.{full, sameName, startBehind, startFrom, start-le, lastStart, lastOf, oneBelow}
-use Rattle.sheetform.specs.Form.{keyAt}
+use Rattle.sheetparts.specs.Form.{keyAt}
 use Rattle.sheetlaws.specs.Sheet.{place}
 use Rattle.bytype.specs.ByType.{bucketTo, bucketOf}
 use Rattle.bytype.specs.Chains.{Chained, chained-kept}

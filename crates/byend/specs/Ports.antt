@@ -10,8 +10,8 @@ use lib.Dec.{eqb}
 use lib.ListN.{length, getD, drop, drop-of-length-le}
 use lib.Seq.{drop-cons}
 use borrow.Author.Tests.{eqb-true}
-use Rattle.classes.specs.Choice.{pick, and}
-use Rattle.names.specs.Shape.{divider, escapes}
+use Rattle.classes.specs.Choice.{pick}
+use Rattle.nameshape.specs.Shape.{divider, escapes}
 use Rattle.names.specs.Order.{sameText}
 use Rattle.names.specs.Orders.{cmp-1}
 use Rattle.names.specs.Name.{canon, canonFrom, turned, full, sameName, startBehind, startFrom, start-cons, lastStart}

@@ -1,11 +1,11 @@
 // An index of a sheet's arcs by their second end without its last component, made once where a text has a DEVICE.
 ghost use mathlib.Core.Path.{_≡_};
-ghost use mathlib.Core.Bool.{Bool, true, false};
+ghost use mathlib.Core.Bool.{true, false};
 ghost use Prim.Native.Nat.{ℕ, _+_, _≤_, _<_};
 ghost use lib.ListN.{length, getD};
 ghost use Rattle.sheetlaws.specs.Sheet.{place};
 ghost use Rattle.sheet.specs.Find.{ArcsGood};
-ghost use Rattle.bytype.specs.Chains.{Noted, headPlace, Chained};
+ghost use Rattle.bytype.specs.Chains.{Noted, Chained};
 ghost use Rattle.byend.specs.Ends.{belowBucket, endBucket, endPlace, EndsIndexed, EndsReady};
 ghost use Rattle.byend.specs.Ports.{isPlain, plainFrom, openEnd};
 

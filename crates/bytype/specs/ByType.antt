@@ -12,7 +12,7 @@ use lib.ListN.{length, getD, set}
 use borrow.Author.Tests.{eqb-true, eqb-false}
 use Rattle.names.specs.Order.{cmp, sameText}
 use Rattle.names.specs.Orders.{cmp-1}
-use Rattle.sheetform.specs.Form.{typeAt}
+use Rattle.sheetparts.specs.Form.{typeAt}
 use Rattle.sheetlaws.specs.Sheet.{inEnd, nth}
 use Rattle.bytype.specs.Chains.{Chained, Noted, put-stays}
 

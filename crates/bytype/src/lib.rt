@@ -2,7 +2,6 @@
 ghost use mathlib.Core.Path.{_≡_};
 ghost use Prim.Native.Nat.{ℕ, _+_, _*_, _≤_, _<_};
 ghost use lib.ListN.{length, getD};
-ghost use Rattle.sheetlaws.specs.Sheet.{inEnd};
 ghost use Rattle.sheet.specs.Find.{InsGood};
 ghost use Rattle.bytype.specs.Chains.{Noted, headPlace, Chained};
 ghost use Rattle.bytype.specs.ByType.{bucketOf, typeBucket, spotOf, linkPlace, spotPlace, Indexed, IndexReady};

@@ -2,15 +2,15 @@
 -- Assumes nothing.
 use mathlib.Core.Path.{_≡_, refl, ap, _∙_, sym}
 use mathlib.Core.Bool.{Bool, true, false}
-use mathlib.Core.List.{List, [], _∷_, _++_, append-assoc, append-nil}
-use Prim.Native.Nat.{ℕ, zero, suc, _+_, _-_, _*_, _≤_, _<_}
+use mathlib.Core.List.{List, [], _∷_, _++_, append-assoc}
+use Prim.Native.Nat.{ℕ, _+_, _-_, _*_, _≤_, _<_}
 use native.Mathlib.Omega.{arith}
 use lib.Dec.{eqb}
-use lib.ListN.{length, length-append}
+use lib.ListN.{length}
 use borrow.Author.Tests.{eq-eqb, ne-eqb}
 use Rattle.classes.specs.Choice.{pick}
 use Rattle.grammar.specs.Ll.{lit, non}
-use Rattle.grammar.specs.Machine.{Res, fine, bad}
+use Rattle.grammar.specs.Machine.{fine, bad}
 use Rattle.grammar.specs.declared.Value.{Value}
 use Rattle.grammar.specs.declared.Entry.{Entry}
 use Rattle.grammar.specs.declared.Status.the-variants as status
@@ -19,10 +19,10 @@ use Rattle.grammar.specs.declared.Within.the-variants as within
 use Rattle.grammar.specs.declared.Turn.the-variants as turn
 use Rattle.grammar.specs.declared.ReadBody.{ReadBody}
 use Rattle.grammar.specs.declared.ReadBody.the-variants as body
-use Rattle.tokens.specs.declared.Token.the-variants.{Got, Stop}
-use Rattle.tokens.specs.Tokens.{tokenAt}
+use Rattle.tokenforms.specs.declared.Token.the-variants.{Got, Stop}
+use Rattle.tokenforms.specs.Tokens.{tokenAt}
 use Rattle.tokens.specs.Stream.{Placed, placed}
-use Rattle.names.specs.Shape.{isPath}
+use Rattle.nameshape.specs.Shape.{isPath}
 use Rattle.grammar.specs.declared.Hand.{Hand}
 use Rattle.grammar.specs.declared.Mark.the-variants as mark
 use Rattle.grammar.specs.declared.ReadName.the-variants as rn
@@ -31,12 +31,12 @@ use Rattle.cells.specs.declared.Instance.the-variants as ri
 use Rattle.cells.specs.declared.CellHead.{CellHead}
 use Rattle.cells.specs.declared.Sight.{Sight}
 use Rattle.cells.specs.declared.CellHead.the-variants as ch
-use Rattle.header.specs.Steps.{Takes, KeyRead, TextRead}
+use Rattle.headsteps.specs.Steps.{Takes, KeyRead, TextRead}
 use Rattle.grammar.specs.Grammar.{delay, check, specs, instance, path, named, type, skip, cellTail, alts, keyword, _!_, _⇒_, ⟨, ⟩}
 use Rattle.grammar.specs.Meaning.{Log, Item, entered, finished, noHead, nothing, celled, pathed, typed, noted}
 use Rattle.grammar.specs.Reading.{reading, stepped, goes, halts}
 use Rattle.grammar.specs.Outcome.{Stack, state}
-use Rattle.rules.specs.Contracts.{Listable, item, Marked, holds}
+use Rattle.rules.specs.Contracts.{Listable, item, Marked}
 use Rattle.rules.specs.Rules.{ahead, heads}
 use Rattle.rules.specs.Bodies.{below, itemPlace, Turned}
 use Rattle.tables.specs.Layout.{entryRow, entryRows, length-entries, entries-append, entries-one}

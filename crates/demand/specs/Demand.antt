@@ -40,8 +40,8 @@ use Rattle.splice.specs.Carried.{incoming, lit-taken}
 use Rattle.splice.specs.Parts.{old, old-keeps, old-stands, entriesAt, behind-token, from1, to1}
 use Rattle.splice.specs.Splice.{Spliced, splice}
 use Rattle.wire.specs.Wire.{Bytes}
-use Rattle.sheetform.specs.Form.{checkOf}
-use Rattle.sheetform.specs.declared.SheetCheck.the-variants.{Good}
+use Rattle.sheetparts.specs.Form.{checkOf}
+use Rattle.sheetparts.specs.declared.SheetCheck.the-variants.{Good}
 use Rattle.sheetlaws.specs.Sheet.{Sheet, decode}
 use Rattle.history.specs.Events.{Answer, sheet, refused}
 use Rattle.history.specs.Sheet.{Slot, Values, Cell, Cut, cut, behind, swapped}
@@ -50,9 +50,9 @@ use Rattle.history.specs.Places.{renamedEntry, renamedCell, renamedAnswer}
 use Rattle.slots.specs.Slots.{valuesOf, sheetAt}
 use Rattle.applying.specs.Instances.{recordsAt}
 use Rattle.applying.specs.Says.{nameAt, entryOf, partAt, cellOf, cellsOf}
-use Rattle.annotate.specs.CellList.{each-take, each-drop}
-use Rattle.annotate.specs.declared.Annotated.the-variants as annotated
-use Rattle.annotate.specs.Meaning as annotating
+use Rattle.meaning.specs.CellList.{each-take, each-drop}
+use Rattle.meaning.specs.declared.Annotated.the-variants as annotated
+use Rattle.meaning.specs.Meaning as annotating
 use Rattle.patching.specs.Where.{Where, at}
 use Rattle.arcrun.specs.CellRuns.{cells-length}
 use Rattle.swap.specs.declared.Patched.the-variants as patched

@@ -9,11 +9,11 @@ use lib.Dec.{eqb}
 use borrow.Author.Tests.{eqb-false}
 use Rattle.classes.specs.Choice.{pick}
 use Rattle.names.specs.Name.{canon, full, sameName, oneBelow, partOf, both}
-use Rattle.sheetform.specs.Form.{keyAt, pathAt}
+use Rattle.sheetparts.specs.Form.{keyAt, pathAt}
 use Rattle.sheetlaws.specs.Sheet.{place}
 use Rattle.grammar.specs.declared.Entry.{Entry}
 use Rattle.applying.specs.Bytes.{deviceHit}
-use Rattle.apply.specs.Turns.{hits}
+use Rattle.entryarcs.specs.Turns.{hits}
 use Rattle.bytype.specs.ByType.{bucketOf}
 use Rattle.byend.specs.Ends.{belowBucket, endBucket, one-below-bucket}
 use Rattle.byend.specs.Ports.{openEnd, plainFrom, port-bucket}

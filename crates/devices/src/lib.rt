@@ -1,7 +1,7 @@
 // An entry in one instance, where DEVICE finds its arcs by the index of the arcs by their second end.
 ghost use mathlib.Core.Path.{_≡_};
-ghost use mathlib.Core.Bool.{Bool, true, false};
-ghost use Prim.Native.Nat.{ℕ, _≤_, _<_};
+ghost use mathlib.Core.Bool.{true, false};
+ghost use Prim.Native.Nat.{_≤_, _<_};
 ghost use lib.ListN.{length, getD};
 ghost use Rattle.sheetlaws.specs.Sheet.{inEnd, place};
 ghost use Rattle.sheet.specs.Find.{ArcSearch};
@@ -9,7 +9,7 @@ ghost use Rattle.byend.specs.Ends.{EndsIndexed, EndsReady};
 ghost use Rattle.applying.specs.Bytes.{deviceRefusal, deviceWritten, refusalIn, writtenIn, appliedIn};
 ghost use Rattle.applying.specs.Ready.{InReady};
 ghost use Rattle.devices.specs.ByPath.{byPath};
-use apply::Plan;
+use entryarcs::Plan;
 use grammar::Entry;
 
 const DEVICE: u8 = 4;
@@ -82,7 +82,7 @@ fn refusal_chained(
     let mut k = widen(ends[bucket]);
     while k < plan.arcs {
         let here = arc_place(start, plan.arcs, plan.first, marks, k);
-        if apply::device_hit(start, text, plan.slash, entry, instance, here) {
+        if entryarcs::device_hit(start, text, plan.slash, entry, instance, here) {
             let values = sheet::values_place(start, here);
             least = amounts::lesser_of(
                 least,
@@ -120,7 +120,7 @@ fn write_chained(
     let mut k = widen(ends[bucket]);
     while k < plan.arcs {
         let here = arc_place(start, plan.arcs, plan.first, marks, k);
-        if apply::device_hit(start, text, plan.slash, entry, instance, here) {
+        if entryarcs::device_hit(start, text, plan.slash, entry, instance, here) {
             let values = sheet::values_place(start, here);
             amounts::write_arc(out, values, rows, entry.group == ADDS);
         }

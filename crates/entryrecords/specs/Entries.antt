@@ -5,7 +5,7 @@ use Prim.Native.Nat.{ℕ, _+_, _*_}
 use lib.ListN.{length, getD}
 use Rattle.grammar.specs.Meaning.{Item}
 use Rattle.tables.specs.Layout.{valuesRow}
-use Rattle.records.specs.Records.{firstOf}
+use Rattle.cellrecords.specs.Records.{firstOf}
 use Rattle.views.specs.Views.{headAt}
 use Rattle.entryrecords.specs.declared.EntryRecord.{EntryRecord}
 

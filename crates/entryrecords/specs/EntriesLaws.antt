@@ -14,11 +14,11 @@ use Rattle.grammar.specs.Reading.{At}
 use Rattle.grammar.specs.Outcome.{readFile, readCell}
 use Rattle.sound.specs.Sound.{SoundItem, SoundLog, read-sound, cell-sound}
 use Rattle.tables.specs.Layout.{valuesRow}
-use Rattle.reader.specs.Files.{entriesLeft}
+use Rattle.tables.specs.Left.{entriesLeft}
 use Rattle.applying.specs.Rows.{EntryIs, head-is, count-is, words-are}
-use Rattle.annotate.specs.Entries.{noItem}
-use Rattle.annotate.specs.CellList.{each-at}
-use Rattle.annotate.specs.TextLaws.{tables-sound}
+use Rattle.meaning.specs.Entries.{noItem}
+use Rattle.meaning.specs.CellList.{each-at}
+use Rattle.meaning.specs.TableLaws.{tables-sound}
 use Rattle.entryrecords.specs.declared.EntryRecord.{EntryRecord}
 use Rattle.entryrecords.specs.Entries.{numbersAt, entryOf, entryRead}
 

@@ -1,6 +1,6 @@
 // The entry list lent as records: a thin function over a slice of entries, above the table of words that the core fills.
 ghost use mathlib.Core.Path.{_≡_};
-ghost use mathlib.Core.List.{List, _++_};
+ghost use mathlib.Core.List.{_++_};
 ghost use Prim.Native.Nat.{_+_, _*_, _≤_};
 ghost use lib.ListN.{length, drop};
 ghost use Rattle.entryrecords.specs.Entries.{numbersAt, entryOf, entriesOf};

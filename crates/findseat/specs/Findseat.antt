@@ -7,8 +7,8 @@ use mathlib.Core.List.{List}
 use lib.ListN.{getD}
 use Rattle.sheetlaws.specs.Sheet.{place}
 use Rattle.grammar.specs.declared.Entry.{Entry}
-use Rattle.annotate.specs.declared.Whom.the-variants.{One}
-use Rattle.arcrun.specs.Touch.{meantFor}
+use Rattle.meaning.specs.declared.Whom.the-variants.{One}
+use Rattle.meant.specs.Touch.{meantFor}
 
 -- the first `count` numbers rise
 abbrev pub Ascending : List ℕ → ℕ → Type 0

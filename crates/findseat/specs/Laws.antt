@@ -9,7 +9,7 @@ use lib.Dec.{eqb, ltb}
 use lib.ListN.{length, getD}
 use borrow.Author.Tests.{eqb-true, eq-eqb, ltb-true, ltb-false}
 use Rattle.wire.specs.Wire.{Bytes}
-use Rattle.sheetform.specs.Form.{Key, keyAt, cmpKey}
+use Rattle.sheetparts.specs.Form.{Key, keyAt, cmpKey}
 use Rattle.sheetlaws.specs.Sheet.{arNext, place}
 use Rattle.sheet.specs.Search.{search-more, finger}
 use Rattle.sheet.specs.Find.{findArc, ArcsGood, arcs-rise, arc-there}
@@ -18,8 +18,8 @@ use Rattle.sheet.specs.declared.Found.the-variants.{At, Nothing}
 use Rattle.grammar.specs.declared.Entry.{Entry}
 use Rattle.applying.specs.Bytes.{arcOf}
 use Rattle.patching.specs.Meant.{meantIn}
-use Rattle.annotate.specs.declared.Whom.the-variants.{One}
-use Rattle.arcrun.specs.Touch.{meantFor}
+use Rattle.meaning.specs.declared.Whom.the-variants.{One}
+use Rattle.meant.specs.Touch.{meantFor}
 use Rattle.findseat.specs.Findseat.{Ascending, OnlyAt, InOrder, OnlySeat}
 
 -- 1. Halving

@@ -9,7 +9,7 @@ ghost use Rattle.classes.specs.Choice.{pick};
 ghost use Rattle.sheetlaws.specs.Sheet.{inEnd};
 ghost use Rattle.sheet.specs.Find.{ArcSearch};
 ghost use Rattle.findseat.specs.Findseat.{Ascending, OnlyAt, InOrder, OnlySeat};
-use apply::Plan;
+use entryarcs::Plan;
 use grammar::Entry;
 use sheet::Found;
 
@@ -53,8 +53,8 @@ pub fn find_seat<'a>(
     ensures { λ r. ⌜ ((type : List ℕ) → OnlySeat (now (start .entry)) (pick side (now (incoming .entry)) (now (file .entry))) (plan .slash) (plan .instances)
         entry instance type (now (arcs .entry)) count r) ⌝ }
 {
-    let text = arcrun::text_of(file, incoming, side);
-    match apply::arc_of(start, text, plan, entry, marks, instance) {
+    let text = meant::text_of(file, incoming, side);
+    match entryarcs::arc_of(start, text, plan, entry, marks, instance) {
         Found::At(arc) => seat_at(arcs, count, arc),
         Found::Nothing => count,
     }

@@ -3,14 +3,14 @@
 -- Assumes nothing.
 use mathlib.Core.Bool.{Bool, true, false}
 use mathlib.Core.List.{List, [], _∷_, _++_}
-use Prim.Native.Nat.{ℕ, zero, suc, _+_}
-use lib.Dec.{eqb, leb, ltb}
+use Prim.Native.Nat.{ℕ, _+_}
+use lib.Dec.{eqb, ltb}
 use lib.ListN.{drop}
 use Rattle.classes.specs.Choice.{pick, within}
 use Rattle.tokens.specs.Stream.{Placed}
 use Rattle.words.specs.Words.{keyOf, scaleOf, dividerOf, edgeOf, unitOf}
-use Rattle.names.specs.Shape.{isPath, isPort}
-use Rattle.times.specs.Shape.{isNumber}
+use Rattle.nameshape.specs.Shape.{isPath, isPort}
+use Rattle.numbershape.specs.Shape.{isNumber}
 use Rattle.grammar.specs.Ll.{Sym, lit, non, Alt}
 
 pub data Table : Type 0 where

@@ -1,6 +1,6 @@
 -- A reading machine over a grammar: each token is taken by a terminal, and the terminal's meaning is judged against what is known so far.
 -- Assumes nothing.
-use mathlib.Core.Path.{_≡_, refl, sym, ap, subst, _∙_}
+use mathlib.Core.Path.{_≡_, refl, sym, ap, subst}
 use mathlib.Core.Bool.{Bool, true, false}
 use mathlib.Core.List.{List, [], _∷_, _++_, List·Memᴰ, append-nil}
 use mathlib.Core.Option.{Option, none, some}
@@ -8,7 +8,7 @@ use mathlib.Core.Logic.{_↔_}
 use native.Mathlib.Omega.{arith}
 use Prim.Native.Nat.{ℕ}
 use Rattle.classes.specs.Choice.{pick}
-use Rattle.grammar.specs.Ll.{Sym, lit, non, Alt, Took, Row, choose, onto, feed, feeds, onward, before, before-inv, none≢some, Derives, done, back, complete}
+use Rattle.grammar.specs.Ll.{Sym, lit, non, Alt, Took, Row, choose, onto, feed, feeds, before-inv, none≢some, Derives, done, back, complete}
 
 -- going on, or a refusal with its number and its place
 pub data Res (S : Type 0) : Type 0 where

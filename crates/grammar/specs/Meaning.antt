@@ -10,9 +10,9 @@ use lib.ListN.{length, set}
 use Rattle.classes.specs.Choice.{pick}
 use Rattle.tokens.specs.Stream.{Placed}
 use Rattle.words.specs.Words.{keyOf, edgeOf, scaleOf, unitOf}
-use Rattle.times.specs.Value.{numberOf}
-use Rattle.times.specs.declared.Number.{Number}
-use Rattle.times.specs.declared.Number.the-variants as number
+use Rattle.numbershape.specs.Value.{numberOf}
+use Rattle.numbershape.specs.declared.Number.{Number}
+use Rattle.numbershape.specs.declared.Number.the-variants as number
 use Rattle.grammar.specs.Machine.{Res, fine, bad}
 use Rattle.grammar.specs.declared.Amount.the-variants.{Absent, Time}
 use Rattle.grammar.specs.declared.Value.{Value}

@@ -1,15 +1,15 @@
 -- The outcome of reading a whole text: a file, or the one cell of a patch. This is what the public contracts cite.
 -- Assumes nothing.
-use mathlib.Core.Bool.{Bool, true, false}
+use mathlib.Core.Bool.{Bool, false}
 use mathlib.Core.List.{List, []}
 use Prim.Native.Nat.{ℕ}
 use lib.Dec.{ltb}
 use lib.ListN.{length, replicate}
 use Rattle.classes.specs.Choice.{pick}
 use Rattle.grammar.specs.Ll.{Sym}
-use Rattle.grammar.specs.Machine.{Res, fine, bad, State}
+use Rattle.grammar.specs.Machine.{Res, bad}
 use Rattle.grammar.specs.Grammar.{Term, N, file, oneCell}
-use Rattle.grammar.specs.Meaning.{Log, Book, tidy}
+use Rattle.grammar.specs.Meaning.{Log, tidy}
 use Rattle.grammar.specs.Reading.{At, reading}
 
 abbrev pub Stack : Type 0

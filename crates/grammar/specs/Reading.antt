@@ -1,20 +1,20 @@
 -- The reading of a text: the machine of the grammar, fed with the text's tokens.
 -- Assumes nothing.
-use mathlib.Core.Path.{_≡_, refl, ap, _∙_, sym, subst}
-use mathlib.Core.Bool.{Bool, true, false}
-use mathlib.Core.List.{List, [], _∷_, _++_}
-use Prim.Native.Nat.{ℕ, zero, suc, _+_, _-_, _≤_, _<_}
-use lib.Dec.{eqb, leb}
+use mathlib.Core.Path.{_≡_, refl, ap, _∙_}
+use mathlib.Core.Bool.{Bool}
+use mathlib.Core.List.{List, [], _∷_}
+use Prim.Native.Nat.{ℕ, _≤_}
+use lib.Dec.{eqb}
 use lib.ListN.{length}
 use Rattle.classes.specs.Choice.{pick}
-use Rattle.tokens.specs.declared.Token.{Token}
-use Rattle.tokens.specs.declared.Token.the-variants.{Got, Stop}
-use Rattle.tokens.specs.Tokens.{tokenAt}
+use Rattle.tokenforms.specs.declared.Token.{Token}
+use Rattle.tokenforms.specs.declared.Token.the-variants.{Got, Stop}
+use Rattle.tokenforms.specs.Tokens.{tokenAt}
 use Rattle.tokens.specs.Stream.{Placed, placed, Stream, stream, stream-turn, onward}
-use Rattle.grammar.specs.Ll.{Sym, lit, non}
+use Rattle.grammar.specs.Ll.{Sym}
 use Rattle.grammar.specs.Machine.{Res, fine, bad, _then_, State, step, run}
 use Rattle.grammar.specs.Grammar.{Term, N, alts, fits}
-use Rattle.grammar.specs.Meaning.{Log, Book, judge, wrong}
+use Rattle.grammar.specs.Meaning.{Book, judge, wrong}
 
 abbrev pub At : Type 0
 At = State Term N Book

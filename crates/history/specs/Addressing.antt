@@ -10,7 +10,7 @@ use lib.ListN.{getElem?}
 use borrow.Author.Tests.{eqb-true}
 use Rattle.classes.specs.Choice.{or, and}
 use Rattle.names.specs.Order.{sameText}
-use Rattle.names.specs.Shape.{Last, Name}
+use Rattle.nameshape.specs.Shape.{Last, Name}
 use Rattle.names.specs.Name.{full, sameName, both}
 use Rattle.names.specs.Laws.{name-exactly, path-determined, PathOrTop, one-below-exactly}
 use Rattle.history.specs.EventLaws.{any-cong}

@@ -7,7 +7,7 @@ use Prim.Native.Nat.{ℕ, zero, suc, _+_}
 use Prim.Native.String.{String}
 use lib.IntN.{ℤ, pos, negsuc}
 use Rattle.classes.specs.Text.{bytes}
-use Rattle.names.specs.Shape
+use Rattle.nameshape.specs.Shape
 use Rattle.names.specs.Order
 use Rattle.names.specs.Name
 use Rattle.history.specs.Events

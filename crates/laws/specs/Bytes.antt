@@ -14,8 +14,8 @@ use lib.Seq.{getD-drop}
 use borrow.Author.Tests.{leb-true, leb-false, le-leb, eqb-true, eqb-false, ltb-true, ltb-false, not-true, not-false}
 use Rattle.classes.specs.Choice.{pick, and, within}
 use Rattle.classes.specs.Classes.{classOf, isWhite, isPlain}
-use Rattle.tokens.specs.Scan.{scanLen, scanSt, turn, stopped}
-use Rattle.tokens.specs.Machines.{
+use Rattle.scanning.specs.Scan.{scanLen, scanSt, turn, stopped}
+use Rattle.scanning.specs.Machines.{
   commences,
   wordStop,
   wordNext,
@@ -33,13 +33,14 @@ use Rattle.tokens.specs.Machines.{
   outside,
   modeNext,
 }
-use Rattle.tokens.specs.Tokens.{stringOf, tokenOf, behind, tokenAt, blockEnd, closing, spoilt, blankEnd, blankAt}
-use Rattle.tokens.specs.Local.{spoilt-le}
+use Rattle.tokenforms.specs.Tokens.{stringOf, tokenOf, behind, tokenAt, blockEnd, closing, spoilt}
+use Rattle.scanning.specs.Machines.{blankEnd, blankAt}
+use Rattle.tokenforms.specs.Local.{spoilt-le}
 use Rattle.tokens.specs.Stream.{Stream, stream, stream-turn, onward, onwards}
 use Rattle.laws.specs.Stops.{since-within, ends}
-use Rattle.tokens.specs.declared.Blank.{Blank}
-use Rattle.tokens.specs.declared.Token.{Token}
-use Rattle.tokens.specs.declared.Token.the-variants.{Got, Stop}
+use Rattle.scanning.specs.declared.Blank.{Blank}
+use Rattle.tokenforms.specs.declared.Token.{Token}
+use Rattle.tokenforms.specs.declared.Token.the-variants.{Got, Stop}
 
 -- 'Legal bytes are tab, LF, CR and 0x20 to 0x7E': the class of the others is 0
 abbrev pub Legal : ℕ → Type 0

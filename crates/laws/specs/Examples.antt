@@ -8,14 +8,14 @@ use lib.IntN.{pos, negℤ}
 use lib.ListN.{replicate}
 use Rattle.classes.specs.Text.{bytes}
 use Rattle.classes.specs.Classes.{classOf}
-use Rattle.tokens.specs.Scan.{scanLen, scanSt}
-use Rattle.tokens.specs.Machines.{wordStop, wordNext, textStop, closeStop, textNext, blankStop, modeNext, blankGoes}
-use Rattle.tokens.specs.Tokens.{stringOf, tokenOf, behind, tokenAt}
+use Rattle.scanning.specs.Scan.{scanLen, scanSt}
+use Rattle.scanning.specs.Machines.{wordStop, wordNext, textStop, closeStop, textNext, blankStop, modeNext, blankGoes}
+use Rattle.tokenforms.specs.Tokens.{stringOf, tokenOf, behind, tokenAt}
 use Rattle.tokens.specs.Stream.{row, stream}
 use Rattle.words.specs.Words.{keyOf, edgeOf, unitOf, scaleOf, dividerOf}
-use Rattle.names.specs.Shape.{isNameByte, isEscapable, divider, bodyNext, bracketNext, nameNext, nameRun, mayEnd, isPath, isPort}
-use Rattle.times.specs.Shape as shape
-use Rattle.times.specs.Shape.{
+use Rattle.nameshape.specs.Shape.{isNameByte, isEscapable, divider, bodyNext, bracketNext, nameNext, nameRun, mayEnd, isPath, isPort}
+use Rattle.numbershape.specs.Shape as shape
+use Rattle.numbershape.specs.Shape.{
   signs,
   digitsThen,
   marked,
@@ -29,7 +29,7 @@ use Rattle.times.specs.Shape.{
   powerOf,
   partsOf,
 }
-use Rattle.times.specs.Value.{exact, numberOf}
+use Rattle.numbershape.specs.Value.{exact, numberOf}
 use Rattle.grammar.specs.declared.Amount.the-variants.{Time}
 use Rattle.grammar.specs.declared.Cell.{Cell}
 use Rattle.grammar.specs.Machine.{Res, fine, bad, run}

@@ -12,9 +12,9 @@ use lib.ListN.{length}
 use borrow.Author.Tests.{eqb-true, eqb-false}
 use Rattle.classes.specs.Choice.{pick}
 use Rattle.tokens.specs.Stream.{Placed}
-use Rattle.times.specs.Value.{numberOf}
-use Rattle.times.specs.declared.Number.{Number}
-use Rattle.times.specs.declared.Number.the-variants as number
+use Rattle.numbershape.specs.Value.{numberOf}
+use Rattle.numbershape.specs.declared.Number.{Number}
+use Rattle.numbershape.specs.declared.Number.the-variants as number
 use Rattle.grammar.specs.Machine.{Res, fine, bad, fine-inj, bad≢fine}
 use Rattle.grammar.specs.Grammar.{Cls, Act, note, divide, scaled, unity, joined, cell, entry, time}
 use Rattle.grammar.specs.Meaning.{Book, overlong, timed, judge, judgeBy}

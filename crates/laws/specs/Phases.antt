@@ -11,9 +11,9 @@ use lib.Dec.{eqb, leb, ltb}
 use lib.IntN.{ℤ}
 use Rattle.classes.specs.Choice.{pick}
 use Rattle.tokens.specs.Stream.{Placed}
-use Rattle.times.specs.Shape.{isNumber}
-use Rattle.times.specs.Value.{numberOf, exact, limit}
-use Rattle.times.specs.declared.Number.the-variants as answer
+use Rattle.numbershape.specs.Shape.{isNumber}
+use Rattle.numbershape.specs.Value.{numberOf, exact, limit}
+use Rattle.numbershape.specs.declared.Number.the-variants as answer
 use Rattle.grammar.specs.Ll.{lit, non, Alt, Row, Took, choose, onto, feed, feeds, none≢some, both-true}
 use Rattle.grammar.specs.Grammar.{
   Cls,

@@ -19,8 +19,8 @@ use Rattle.tokens.specs.Stream.{Placed}
 use Rattle.words.specs.Words as words
 use Rattle.words.specs.Words.{Key, keyOf, scaleOf, dividerOf, edgeOf, unitOf}
 use Rattle.words.specs.Laws.{both}
-use Rattle.names.specs.Shape.{isNameByte, isEscapable, divider, bodyNext, bracketNext, nameNext, nameRun, mayEnd, isPath, isPort}
-use Rattle.times.specs.Shape.{run, signs, digitsThen, marked, exponentFits, fractionFits, isNumber}
+use Rattle.nameshape.specs.Shape.{isNameByte, isEscapable, divider, bodyNext, bracketNext, nameNext, nameRun, mayEnd, isPath, isPort}
+use Rattle.numbershape.specs.Shape.{run, signs, digitsThen, marked, exponentFits, fractionFits, isNumber}
 use Rattle.grammar.specs.Ll.{non, Alt, Row, choose, feeds, before, both-true, Derives, done, back, complete, stuck, emptied}
 use Rattle.grammar.specs.Grammar.{
   Table,

@@ -12,13 +12,14 @@ use lib.ListN.{length, drop, getD, length-drop}
 use borrow.Author.Tests.{leb-true}
 use Rattle.classes.specs.Choice.{pick}
 use Rattle.classes.specs.Classes.{classOf}
-use Rattle.tokens.specs.Scan.{scanLen, scanSt, scan-le}
-use Rattle.tokens.specs.Machines.{blankHalts, blankGoes, outside, modeNext}
-use Rattle.tokens.specs.Tokens.{stringOf, tokenOf, behind, tokenAt, blockEnd, closing, blankEnd, blankAt}
+use Rattle.scanning.specs.Scan.{scanLen, scanSt, scan-le}
+use Rattle.scanning.specs.Machines.{blankHalts, blankGoes, outside, modeNext}
+use Rattle.tokenforms.specs.Tokens.{stringOf, tokenOf, behind, tokenAt, blockEnd, closing}
+use Rattle.scanning.specs.Machines.{blankEnd, blankAt}
 use Rattle.tokens.specs.Stream.{Placed, Stream, stream, stream-turn, onward, onwards}
-use Rattle.tokens.specs.declared.Blank.{Blank}
-use Rattle.tokens.specs.declared.Token.{Token}
-use Rattle.tokens.specs.declared.Token.the-variants.{Got, Stop}
+use Rattle.scanning.specs.declared.Blank.{Blank}
+use Rattle.tokenforms.specs.declared.Token.{Token}
+use Rattle.tokenforms.specs.declared.Token.the-variants.{Got, Stop}
 
 -- the number and the place of what ends the tokens of n bytes
 abbrev pub Ends : ℕ → ℕ → ℕ → Type 0

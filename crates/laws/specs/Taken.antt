@@ -10,8 +10,8 @@ use lib.ListN.{length}
 use Rattle.classes.specs.Choice.{pick}
 use Rattle.tokens.specs.Stream.{Placed}
 use Rattle.words.specs.Words.{scaleOf, unitOf}
-use Rattle.times.specs.Value.{numberOf}
-use Rattle.times.specs.declared.Number.the-variants.{Time, Fine, Beyond}
+use Rattle.numbershape.specs.Value.{numberOf}
+use Rattle.numbershape.specs.declared.Number.the-variants.{Time, Fine, Beyond}
 use Rattle.grammar.specs.Ll.{Derives}
 use Rattle.grammar.specs.Machine.{Res, judges}
 use Rattle.grammar.specs.Grammar.{Act, note, divide, scaled, unity, joined, cell, entry, time, Term, alts, fits, file, oneCell}

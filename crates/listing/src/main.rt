@@ -3,7 +3,7 @@ ghost use Prim.Native.Nat.{_+_, _*_, _≤_};
 ghost use lib.ListN.{length};
 use libc::STDIN_FILENO;
 use libc::STDOUT_FILENO;
-use reader::Answer;
+use readcells::Answer;
 use reader::read_file;
 
 fn print(word: &[u8]) {

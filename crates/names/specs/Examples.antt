@@ -6,7 +6,7 @@ use Prim.Native.String.{String}
 use mathlib.Core.Path.{_≡_, refl}
 use mathlib.Core.Bool.{Bool, true, false}
 use mathlib.Core.List.{List, [], _∷_}
-use Rattle.names.specs.Shape.{isNameByte, isEscapable, divider, bodyNext, bracketNext, nameNext, nameRun, mayEnd, isPath, isPort, isLegal, escapes, mayFollow, textFrom, isText}
+use Rattle.nameshape.specs.Shape.{isNameByte, isEscapable, divider, bodyNext, bracketNext, nameNext, nameRun, mayEnd, isPath, isPort, isLegal, escapes, mayFollow, textFrom, isText}
 use Rattle.names.specs.Order.{cmp, sameText}
 use Rattle.names.specs.Name.{canon, canonFrom, turned, full, sameName, startBehind, startFrom, lastStart, oneBelow}
 

@@ -1,6 +1,6 @@
 -- Laws of names: the order and the one equality, canonical forms, full names, the last component.
 -- Assumes nothing.
-use Prim.Native.Nat.{ℕ, zero, suc, _+_, _≤_, _<_}
+use Prim.Native.Nat.{ℕ, _+_}
 use mathlib.Core.Path.{_≡_, refl, sym, ap, _∙_}
 use mathlib.Core.Bool.{Bool, true, false, not}
 use mathlib.Core.List.{List, [], _∷_, _++_, append-assoc, append-nil}
@@ -11,12 +11,12 @@ use lib.Dec.{eqb}
 use lib.ListN.{length, take, drop, length-append}
 use lib.Seq.{take-at, drop-at, append-snoc}
 use borrow.Author.Tests.{eqb-true, eq-eqb, ne-eqb}
-use Rattle.classes.specs.Choice.{pick, and, within}
+use Rattle.classes.specs.Choice.{and}
 use Rattle.classes.specs.Classes.{isDigit}
-use Rattle.names.specs.Shape.{isNameByte, divider, escapes, Piece, byte, pair, Body, start, more, Digits, digit, digits, Component, plain, indexed, Last, component, ranged, Name, last, join}
+use Rattle.nameshape.specs.Shape.{isNameByte, divider, escapes, Piece, byte, pair, Body, start, more, Digits, digit, digits, Component, plain, indexed, Last, component, ranged, Name, last, join}
 use Rattle.names.specs.Order.{cmp, sameText}
 use Rattle.names.specs.Orders.{cmp-1, cmp-self}
-use Rattle.names.specs.Name.{canon, canonFrom, turned, full, sameName, startFrom, startBehind, start-cons, lastStart, lastOf, oneBelow, partOf, nameOf}
+use Rattle.names.specs.Name.{canon, canonFrom, turned, full, sameName, startFrom, startBehind, start-cons, lastStart, lastOf, oneBelow}
 
 -- The order and the equality.
 

@@ -1,5 +1,3 @@
-pub mod Shape
-pub mod Exactly
 pub mod Order
 pub mod Orders
 pub mod Name

@@ -1,7 +1,7 @@
 -- What a name is: its canonical form, a full name, the one equality of names, the last component; and where a name's bytes stand.
 -- Assumes nothing.
-use Prim.Native.Nat.{ℕ, zero, suc, _+_, _-_, _≤_, _<_}
-use mathlib.Core.Path.{_≡_, refl, sym, ap, _∙_}
+use Prim.Native.Nat.{ℕ, suc, _+_, _-_, _≤_, _<_}
+use mathlib.Core.Path.{_≡_, refl, sym, ap}
 use mathlib.Core.Bool.{Bool, true, false, not}
 use mathlib.Core.List.{List, [], _∷_, _++_}
 use native.Mathlib.Numerals.{add-one}
@@ -11,7 +11,7 @@ use borrow.Author.Tests.{eqb-true}
 use lib.ListN.{length, getD, take, drop, drop-of-length-le}
 use lib.Seq.{drop-cons}
 use Rattle.classes.specs.Choice.{pick, and}
-use Rattle.names.specs.Shape.{divider, escapes}
+use Rattle.nameshape.specs.Shape.{divider, escapes}
 use Rattle.names.specs.Order.{cmp, sameText, front, andThen, front-nil, front-cons, cmp-front}
 
 -- 'the divider is turned into `.`'; an escaped byte is no divider

@@ -9,17 +9,17 @@ use lib.ListN.{getElem?}
 use Rattle.wire.specs.Wire.{Bytes}
 use Rattle.grammar.specs.declared.Cell as read
 use Rattle.grammar.specs.Meaning.{Item}
-use Rattle.sheetform.specs.Form.{checkOf}
-use Rattle.sheetform.specs.declared.SheetCheck.the-variants.{Good}
+use Rattle.sheetparts.specs.Form.{checkOf}
+use Rattle.sheetparts.specs.declared.SheetCheck.the-variants.{Good}
 use Rattle.history.specs.Events.{Event}
 use Rattle.history.specs.Scan.{ownFault}
 use Rattle.history.specs.Sheet.{Slot, Cell, entryEvent, events}
 use Rattle.applying.specs.Says.{entryOf, cellOf}
 use Rattle.applying.specs.Rows.{CellIs}
 use Rattle.applying.specs.Instances.{recordsAt}
-use Rattle.annotate.specs.declared.Whom.{Whom}
-use Rattle.annotate.specs.declared.Whom.the-variants.{Nobody}
-use Rattle.annotate.specs.Entries.{EntriesAre}
+use Rattle.meaning.specs.declared.Whom.{Whom}
+use Rattle.meaning.specs.declared.Whom.the-variants.{Nobody}
+use Rattle.meaning.specs.Entries.{EntriesAre}
 use Rattle.patching.specs.Where.{Where, at}
 use Rattle.arcrun.specs.declared.Least.{Least}
 use Rattle.arcrun.specs.declared.Least.the-variants as least

@@ -18,8 +18,8 @@ use Rattle.grammar.specs.declared.Cell as read
 use Rattle.grammar.specs.Meaning.{Item}
 use Rattle.sound.specs.Sound.{SoundItem}
 use Rattle.tables.specs.Layout.{entryRow}
-use Rattle.sheetform.specs.Form.{checkOf, typeAt}
-use Rattle.sheetform.specs.declared.SheetCheck.the-variants.{Good}
+use Rattle.sheetparts.specs.Form.{checkOf, typeAt}
+use Rattle.sheetparts.specs.declared.SheetCheck.the-variants.{Good}
 use Rattle.sheet.specs.Find.{findInstance}
 use Rattle.sheet.specs.declared.Found.{Found}
 use Rattle.sheet.specs.declared.Found.the-variants.{At, Nothing}
@@ -37,12 +37,12 @@ use Rattle.applying.specs.Rows.{EntryIs, cell-is, head-is, item-expanded}
 use Rattle.applying.specs.Instances.{recordsAt}
 use Rattle.applying.specs.Addressed.{cell-same, cell-every}
 use Rattle.applying.specs.Steps.{one-judged, every-judged}
-use Rattle.annotate.specs.declared.Whom.{Whom}
-use Rattle.annotate.specs.declared.Whom.the-variants.{One, Every, Nobody}
-use Rattle.annotate.specs.Whom.{whomOf, typedAs}
-use Rattle.annotate.specs.Entries.{rowsAt, refusalFor, noItem, EntriesAre}
-use Rattle.annotate.specs.Cells.{entriesBefore}
-use Rattle.annotate.specs.CellList.{each-at, before-is}
+use Rattle.meaning.specs.declared.Whom.{Whom}
+use Rattle.meaning.specs.declared.Whom.the-variants.{One, Every, Nobody}
+use Rattle.meaning.specs.Whom.{whomOf, typedAs}
+use Rattle.meaning.specs.Entries.{rowsAt, refusalFor, noItem, EntriesAre}
+use Rattle.meaning.specs.Cells.{entriesBefore}
+use Rattle.meaning.specs.CellList.{each-at, before-is}
 use Rattle.patching.specs.Where.{Where, at}
 use Rattle.patching.specs.GroupLaws.{shifted}
 use Rattle.patching.specs.Own.{own-new, own-cell-some, own-cell-none, own-numbers-none, own-numbers-some, word-own}

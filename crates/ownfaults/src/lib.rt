@@ -3,11 +3,11 @@ ghost use mathlib.Core.Path.{_≡_};
 ghost use Prim.Native.Nat.{_+_, _*_, _≤_, _<_};
 ghost use lib.ListN.{length, getD};
 ghost use Rattle.sheet.specs.Find.{InsGood, InstanceSearch, ArcSearch};
-ghost use Rattle.annotate.specs.Whom.{InSheet};
-ghost use Rattle.annotate.specs.Entries.{refusalFor};
+ghost use Rattle.meaning.specs.Whom.{InSheet};
+ghost use Rattle.meaning.specs.Entries.{refusalFor};
 ghost use Rattle.ownfaults.specs.Own.{OwnEntries, OwnIs};
-use annotate::Whom;
-use apply::Plan;
+use meaning::Whom;
+use entryarcs::Plan;
 use arcrun::Least;
 
 const CHECK: u8 = 84;
@@ -109,7 +109,7 @@ pub fn own_fault(
 {
     let cell = views::cell_at(cells, 0);
     let celltype = names::part_of(incoming, cell.typefrom, cell.typeto);
-    let whom = annotate::whom_of(start, incoming, plan, places, cell);
+    let whom = meaning::whom_of(start, incoming, plan, places, cell);
     match whom {
         Whom::Nobody(number) => Least::Fault {
             event: event,

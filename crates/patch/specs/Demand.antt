@@ -23,9 +23,9 @@ use Rattle.grammar.specs.Machine.{Res, fine, bad}
 use Rattle.grammar.specs.Reading.{At}
 use Rattle.grammar.specs.Outcome.{readFile, readCell}
 use Rattle.sound.specs.Sound.{Each, SoundItem, read-sound}
-use Rattle.sheetform.specs.Form.{checkOf, valuesAt}
-use Rattle.sheetform.specs.declared.SheetCheck.{SheetCheck}
-use Rattle.sheetform.specs.declared.SheetCheck.the-variants.{Good, Bad}
+use Rattle.sheetparts.specs.Form.{checkOf, valuesAt}
+use Rattle.sheetparts.specs.declared.SheetCheck.{SheetCheck}
+use Rattle.sheetparts.specs.declared.SheetCheck.the-variants.{Good, Bad}
 use Rattle.sheetlaws.specs.Rule.{least}
 use Rattle.sheetlaws.specs.Sheet.{Sheet, place, arNext, arcsAt, decodeOf, decode}
 use Rattle.sheetlaws.specs.Sheet as bytes
@@ -52,8 +52,8 @@ use Rattle.slots.specs.Shapes.{values-in-range}
 use Rattle.slots.specs.Spelled.{start, length-spelled, room, spelled-same, word-set}
 use Rattle.applying.specs.Says.{nameAt, entryOf, partAt, cellOf, cellsOf}
 use Rattle.applying.specs.Instances.{recordsAt}
-use Rattle.annotate.specs.Meaning as annotating
-use Rattle.annotate.specs.CellList.{each-take, each-drop}
+use Rattle.meaning.specs.Meaning as annotating
+use Rattle.meaning.specs.CellList.{each-take, each-drop}
 use Rattle.patching.specs.Where.{Where, at}
 use Rattle.arcrun.specs.RunLaws.{gives-fits}
 use Rattle.arcrun.specs.CellRuns.{cells-length}

@@ -12,16 +12,16 @@ use Rattle.grammar.specs.Machine.{Res, fine, bad}
 use Rattle.grammar.specs.Reading.{At}
 use Rattle.grammar.specs.Outcome.{readCell}
 use Rattle.sound.specs.Sound.{total}
-use Rattle.reader.specs.Files.{cellsLeft, entriesLeft}
-use Rattle.sheetform.specs.Form.{checkOf}
-use Rattle.sheetform.specs.declared.SheetCheck.the-variants.{Good}
+use Rattle.tables.specs.Left.{cellsLeft, entriesLeft}
+use Rattle.sheetparts.specs.Form.{checkOf}
+use Rattle.sheetparts.specs.declared.SheetCheck.the-variants.{Good}
 use Rattle.history.specs.Sheet as history
 use Rattle.history.specs.Sheet.{Values}
 use Rattle.slots.specs.Slots.{valuesOf, spelled, sheetAt}
 use Rattle.applying.specs.Says.{cellsOf}
 use Rattle.applying.specs.Instances.{recordsAt}
-use Rattle.annotate.specs.Entries.{EntriesAre}
-use Rattle.annotate.specs.Cells.{CellsAre}
+use Rattle.meaning.specs.Entries.{EntriesAre}
+use Rattle.meaning.specs.Cells.{CellsAre}
 use Rattle.patching.specs.Where.{at}
 use Rattle.swap.specs.declared.Patched.{Patched}
 use Rattle.swap.specs.declared.Patched.the-variants as patched

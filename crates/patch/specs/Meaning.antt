@@ -10,17 +10,17 @@ use Rattle.classes.specs.Choice.{pick, or}
 use Rattle.grammar.specs.Machine.{Res, fine, bad}
 use Rattle.grammar.specs.Reading.{At}
 use Rattle.grammar.specs.Outcome.{readFile, readCell}
-use Rattle.reader.specs.Files.{cellsLeft, entriesLeft}
-use Rattle.sheetform.specs.Form.{checkOf}
-use Rattle.sheetform.specs.declared.SheetCheck.{SheetCheck}
-use Rattle.sheetform.specs.declared.SheetCheck.the-variants as check
+use Rattle.tables.specs.Left.{cellsLeft, entriesLeft}
+use Rattle.sheetparts.specs.Form.{checkOf}
+use Rattle.sheetparts.specs.declared.SheetCheck.{SheetCheck}
+use Rattle.sheetparts.specs.declared.SheetCheck.the-variants as check
 use Rattle.sheet.specs.Same.{sameRecords}
 use Rattle.history.specs.Events.{Answer}
 use Rattle.history.specs.Sheet.{Slot, Cell}
 use Rattle.history.specs.Sheet as history
 use Rattle.slots.specs.Slots.{recordsOf, valuesOf, sheetAt}
 use Rattle.applying.specs.Says.{cellOf, cellsOf}
-use Rattle.annotate.specs.Cells.{noCell}
+use Rattle.meaning.specs.Cells.{noCell}
 use Rattle.patching.specs.Where.{Where, at}
 use Rattle.swap.specs.declared.Patched.{Patched}
 use Rattle.swap.specs.declared.Patched.the-variants as patched

@@ -20,21 +20,23 @@ use Rattle.grammar.specs.Reading.{At}
 use Rattle.grammar.specs.Outcome.{readFile, readCell}
 use Rattle.sound.specs.Sound.{total, cell-sound}
 use Rattle.sound.specs.One.{one-cell, cell-slash}
-use Rattle.reader.specs.Files.{FileIs, cellsLeft, entriesLeft, unitOf}
+use Rattle.tables.specs.Left.{cellsLeft, entriesLeft}
+use Rattle.reader.specs.Files.{FileIs, unitOf}
 use Rattle.reader.specs.Files as files
-use Rattle.reader.specs.declared.Answer.the-variants as answer
+use Rattle.readcells.specs.declared.Answer.the-variants as answer
 use Rattle.reader.specs.declared.FileRead.{FileRead}
-use Rattle.sheetform.specs.Form.{checkOf}
-use Rattle.sheetform.specs.declared.SheetCheck.the-variants.{Good, Bad}
+use Rattle.sheetparts.specs.Form.{checkOf}
+use Rattle.sheetparts.specs.declared.SheetCheck.the-variants.{Good, Bad}
 use Rattle.sheet.specs.Same.{sameRecords}
 use Rattle.history.specs.Sheet.{Cell}
 use Rattle.slots.specs.Slots.{valuesOf, sheetAt}
 use Rattle.slots.specs.Current.{current-spelled}
 use Rattle.applying.specs.Says.{cellOf, cellsOf}
 use Rattle.applying.specs.Rows.{CellIs}
-use Rattle.annotate.specs.Entries.{EntriesAre}
-use Rattle.annotate.specs.Cells.{entriesBefore, CellsAre}
-use Rattle.annotate.specs.TextLaws.{Tables, tables-sound, read-tables}
+use Rattle.meaning.specs.Entries.{EntriesAre}
+use Rattle.meaning.specs.Cells.{entriesBefore, CellsAre}
+use Rattle.meaning.specs.TableLaws.{Tables, tables-sound}
+use Rattle.annotate.specs.TextLaws.{read-tables}
 use Rattle.patching.specs.Where.{at}
 use Rattle.swaparcs.specs.declared.Swap.{Swap}
 use Rattle.swaparcs.specs.Swap.{Given, olds, comer}

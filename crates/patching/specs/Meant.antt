@@ -13,8 +13,8 @@ use Rattle.wire.specs.Wire.{Bytes}
 use Rattle.names.specs.Order.{sameText, front, front-nil}
 use Rattle.names.specs.Name.{canon, full, sameName, lastOf, oneBelow, partOf, both}
 use Rattle.names.specs.Laws.{name-exactly}
-use Rattle.sheetform.specs.Form.{keyAt, pathAt, typeAt, cmpKey, checkOf}
-use Rattle.sheetform.specs.declared.SheetCheck.the-variants.{Good}
+use Rattle.sheetparts.specs.Form.{keyAt, pathAt, typeAt, cmpKey, checkOf}
+use Rattle.sheetparts.specs.declared.SheetCheck.the-variants.{Good}
 use Rattle.sheetlaws.specs.Sheet.{inEnd, nth, place}
 use Rattle.sheet.specs.Find.{wanted, key-order, key-same}
 use Rattle.grammar.specs.declared.Entry as read-entry

@@ -18,8 +18,8 @@ use borrow.Author.Tests.{ltb-true, ltb-false, leb-true, eqb-true, eqb-false, lt-
 use Rattle.classes.specs.Choice.{pick, and, or}
 use Rattle.wire.specs.Wire.{Bytes, be64, beBytes}
 use Rattle.wire.specs.Frame.{number-back, number-before, number-behind}
-use Rattle.sheetform.specs.Form.{valuesAt, checkOf}
-use Rattle.sheetform.specs.declared.SheetCheck.the-variants.{Good}
+use Rattle.sheetparts.specs.Form.{valuesAt, checkOf}
+use Rattle.sheetparts.specs.declared.SheetCheck.the-variants.{Good}
 use Rattle.sheetlaws.specs.Sheet.{place}
 use Rattle.history.specs.Events.{limit, Value, holds, fails, summed, step, final, failsWith, supplied, anyOf}
 use Rattle.history.specs.Ranges.{InRange}

@@ -6,7 +6,7 @@ use mathlib.Core.List.{List}
 use Rattle.grammar.specs.declared.Cell.{Cell}
 use Rattle.patch.specs.declared.Counted.{Counted}
 use Rattle.patch.specs.Meaning.{Course}
-use Rattle.patchrecords.specs.Patching.{PatchedRecords}
+use Rattle.patchwithin.specs.Patching.{PatchedRecords}
 
 -- ONE OUTCOME: the answer and both counts, the four tables, the current sheet, and both slices of records
 pub one-outcome : (start : List ℕ) (c : Course) (u u1 u2 t t1 t2 v v1 v2 w w1 w2 cur cur1 cur2 : List ℕ) (rs rs1 rs2 ss ss1 ss2 : List Cell) (r1 r2 : Counted)

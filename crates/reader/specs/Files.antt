@@ -2,9 +2,9 @@
 -- Assumes nothing.
 use mathlib.Core.Path.{_≡_, ap, _∙_, sym}
 use mathlib.Core.Bool.{Bool, true, false}
-use mathlib.Core.List.{List, [], _++_}
-use Prim.Native.Nat.{ℕ, _+_, _-_, _≤_, _<_}
-use lib.ListN.{length, drop, replicate}
+use mathlib.Core.List.{List, []}
+use Prim.Native.Nat.{ℕ, _-_, _≤_, _<_}
+use lib.ListN.{length, replicate}
 use Rattle.grammar.specs.Machine.{Res, fine, bad, fine-inj, bad≢fine}
 use Rattle.grammar.specs.declared.Cell.{Cell}
 use Rattle.grammar.specs.declared.Head.{Head}
@@ -17,25 +17,17 @@ use Rattle.rules.specs.Contracts.{HeaderRead}
 use Rattle.cells.specs.Cells.{filled}
 use Rattle.tables.specs.Layout.{cellRows, entryRows}
 use Rattle.tables.specs.Pastes.{put-front}
-use Rattle.reader.specs.declared.Answer.{Answer}
-use Rattle.reader.specs.declared.Answer.the-variants as answer
+use Rattle.tables.specs.Left.{cellsLeft, entriesLeft}
+use Rattle.readcells.specs.declared.Answer.{Answer}
+use Rattle.readcells.specs.declared.Answer.the-variants as answer
 use Rattle.reader.specs.declared.FileRead.{FileRead}
-use Rattle.reader.specs.Whole.{filledCells}
-use Rattle.reader.specs.Left.{CellsRead}
+use Rattle.readcells.specs.Whole.{filledCells}
+use Rattle.readcells.specs.Left.{CellsRead}
 
 -- the answer: the counts, or the paper's refusal number with its place
 abbrev pub answerOf : Res At → Answer
 answerOf (fine st) = answer.Read (length (st .book .log .cells)) (length (st .book .log .items))
 answerOf (bad n q) = answer.Refused n q
-
--- 'Room after the last record is left as lent'; 'Tables of a text refused .. are as lent'
-abbrev pub cellsLeft : Res At → List ℕ → List ℕ
-cellsLeft (fine st) u = cellRows (st .book .log .cells) ++ drop (length (cellRows (st .book .log .cells))) u
-cellsLeft (bad n q) u = u
-
-abbrev pub entriesLeft : Res At → List ℕ → List ℕ
-entriesLeft (fine st) t = entryRows (st .book .log .items) ++ drop (length (entryRows (st .book .log .items))) t
-entriesLeft (bad n q) t = t
 
 -- the divider, the time scale and the places of the header's texts that the file says; of a refused file: '.', 1 ns, and none
 abbrev pub slashOf : Res At → Bool

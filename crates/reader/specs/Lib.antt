@@ -1,4 +1,2 @@
-pub mod Whole
-pub mod Left
 pub mod Files
 pub mod One

@@ -17,12 +17,12 @@ use Rattle.grammar.specs.Meaning.{Item, wrongly}
 use Rattle.grammar.specs.Reading.{At, reading}
 use Rattle.grammar.specs.Outcome.{state, noLog, readCell, textLimit}
 use Rattle.rules.specs.Contracts.{holds}
-use Rattle.header.specs.Steps.{Takes}
+use Rattle.headsteps.specs.Steps.{Takes}
 use Rattle.cells.specs.Cells.{filled}
-use Rattle.reader.specs.declared.Answer.{Answer}
-use Rattle.reader.specs.declared.Answer.the-variants as answer
-use Rattle.reader.specs.Whole.{TailDone, TailNot, begunAt, filledCells, word-full, word-begins, word-wrong}
-use Rattle.reader.specs.Left.{Finished}
+use Rattle.readcells.specs.declared.Answer.{Answer}
+use Rattle.readcells.specs.declared.Answer.the-variants as answer
+use Rattle.readcells.specs.Whole.{TailDone, TailNot, begunAt, filledCells, word-full, word-begins, word-wrong}
+use Rattle.readcells.specs.Left.{Finished}
 use Rattle.reader.specs.Files.{PassRead}
 
 -- 'The incoming text is one cell .. read with the file's divider and time scale'

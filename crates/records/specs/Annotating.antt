@@ -6,8 +6,8 @@ use Prim.Native.Nat.{ℕ, _≤_}
 use Rattle.grammar.specs.declared.Cell.{Cell}
 use Rattle.grammar.specs.Machine.{fine}
 use Rattle.annotate.specs.declared.Counted.{Counted}
-use Rattle.annotate.specs.Meaning.{Course, unfit, unread, judged, cellCount, AnnotateIs}
-use Rattle.records.specs.Reading.{recordsLeft}
+use Rattle.meaning.specs.Meaning.{Course, unfit, unread, judged, cellCount, AnnotateIs}
+use Rattle.readrecords.specs.Reading.{recordsLeft}
 
 -- 'Tables of a text refused or not reached are as lent; those of a text already read keep its reading.'
 unfoldable pub recordsOut : Course → List Cell → List Cell

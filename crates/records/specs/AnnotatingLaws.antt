@@ -2,7 +2,7 @@
 -- Assumes nothing.
 use mathlib.Core.Path.{_≡_, refl, sym, ap, _∙_}
 use mathlib.Core.Bool.{Bool, true, false}
-use mathlib.Core.List.{List, [], _∷_, _++_}
+use mathlib.Core.List.{List, _++_}
 use Prim.Native.Nat.{ℕ, _+_, _*_, _/_, _≤_, _<_}
 use native.Mathlib.Omega.{arith}
 use lib.Dec.{eqb}
@@ -18,10 +18,10 @@ use Rattle.sound.specs.Sound.{read-sound}
 use Rattle.sheetlaws.specs.Sheet.{Sheet, Decoded, decode}
 use Rattle.sheetlaws.specs.Sheet as bytes
 use Rattle.annotate.specs.declared.Counted.{Counted}
-use Rattle.annotate.specs.Meaning.{Course, unfit, unread, judged, byText, bySheet, course, cellsOut, cellCount, AnnotateIs}
-use Rattle.records.specs.Records.{firstOf, recordsOf}
-use Rattle.records.specs.Reading.{roomFor}
-use Rattle.records.specs.ReadingLaws.{left-is, fit-of, part-left}
+use Rattle.meaning.specs.Meaning.{Course, unfit, unread, judged, byText, bySheet, course, cellsOut, cellCount}
+use Rattle.cellrecords.specs.Records.{firstOf, recordsOf}
+use Rattle.readrecords.specs.Reading.{roomFor}
+use Rattle.readrecords.specs.ReadingLaws.{left-is, fit-of, part-left}
 use Rattle.records.specs.Annotating.{recordsOut, CountedIs, CountedWithin, RecordsOut}
 
 -- what the fill leaves

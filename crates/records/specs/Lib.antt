@@ -1,5 +1,2 @@
 pub mod Annotating
 pub mod AnnotatingLaws
-pub mod Reading
-pub mod ReadingLaws
-pub mod Records

@@ -1,37 +1,32 @@
 -- The sections of a cell: contracts and rules of the readers that go from entry to entry.
 -- Assumes nothing.
-use mathlib.Core.Path.{_≡_, refl, ap, _∙_, sym}
+use mathlib.Core.Path.{_≡_, refl, _∙_}
 use mathlib.Core.Bool.{Bool, true, false}
 use mathlib.Core.Logic.{_⊎_, inl, inr}
-use mathlib.Core.List.{List, [], _∷_, _++_, append-assoc}
-use Prim.Native.Nat.{ℕ, zero, suc, _+_, _-_, _≤_, _<_}
+use mathlib.Core.List.{List, [], _∷_, _++_}
+use Prim.Native.Nat.{ℕ, _+_, _≤_, _<_}
 use native.Mathlib.Omega.{arith}
 use lib.Dec.{eqb, leb}
-use lib.ListN.{length, length-append}
+use lib.ListN.{length}
 use borrow.Author.Tests.{eq-eqb, ne-eqb, le-leb, lt-leb, leb-true}
 use Rattle.classes.specs.Choice.{pick, and, within}
-use Rattle.tokens.specs.declared.Token.the-variants.{Got, Stop}
-use Rattle.tokens.specs.Tokens.{tokenAt}
-use Rattle.tokens.specs.Stream.{Placed, placed}
+use Rattle.tokenforms.specs.declared.Token.the-variants.{Got, Stop}
+use Rattle.tokenforms.specs.Tokens.{tokenAt}
+use Rattle.tokens.specs.Stream.{placed}
 use Rattle.words.specs.Words.{keyOf}
-use Rattle.grammar.specs.Ll.{Sym, lit, non, Alt}
+use Rattle.grammar.specs.Ll.{non}
 use Rattle.grammar.specs.Machine.{Res, fine, bad}
-use Rattle.grammar.specs.declared.Value.{Value}
 use Rattle.grammar.specs.declared.Entry.{Entry}
-use Rattle.grammar.specs.declared.Status.the-variants as status
 use Rattle.grammar.specs.declared.Within.{Within}
 use Rattle.grammar.specs.declared.Within.the-variants.{Cell, Delay, Absolute, Increment, Check}
 use Rattle.grammar.specs.declared.Turn.{Turn}
 use Rattle.grammar.specs.declared.Turn.the-variants as turn
 use Rattle.grammar.specs.declared.Keyword.{Keyword}
 use Rattle.grammar.specs.declared.Keyword.the-variants as kw
-use Rattle.grammar.specs.declared.ReadBody.{ReadBody}
-use Rattle.grammar.specs.declared.ReadBody.the-variants as body
 use Rattle.grammar.specs.Grammar.{N, alts, keyword, _⇒_, _∣_, spec, specs, deltype, deltypes, delays, delay, checks, check}
-use Rattle.grammar.specs.Meaning.{Log, Item, entered, finished, wrongly}
+use Rattle.grammar.specs.Meaning.{Log, finished, wrongly}
 use Rattle.grammar.specs.Reading.{At, reading, goes, halts}
 use Rattle.grammar.specs.Outcome.{Stack, state}
-use Rattle.rules.specs.Contracts.{Listable, item}
 use Rattle.rules.specs.Rules.{ahead}
 
 -- ONE OF TWO KEYWORDS right behind an opening bracket: a takes A, the next one takes B

@@ -2,16 +2,16 @@
 -- behind the construct at the place that the answer gives, with what was read in the log; or it is the answer's refusal. What the code
 -- knows is an argument of the state, what it does not know is a 'for every'.
 -- Assumes nothing.
-use mathlib.Core.Path.{_≡_, refl}
+use mathlib.Core.Path.{_≡_}
 use mathlib.Core.Bool.{Bool, true, false}
 use mathlib.Core.List.{List, [], _∷_, _++_}
-use Prim.Native.Nat.{ℕ, zero, suc, _+_, _-_, _*_, _≤_, _<_}
+use Prim.Native.Nat.{ℕ, _+_, _-_, _≤_, _<_}
 use lib.Dec.{eqb}
 use lib.ListN.{length}
 use Rattle.classes.specs.Choice.{pick}
-use Rattle.tokens.specs.Stream.{Placed, placed, part}
-use Rattle.times.specs.declared.Number.{Number}
-use Rattle.times.specs.declared.Number.the-variants as number
+use Rattle.tokens.specs.Stream.{Placed, part}
+use Rattle.numbershape.specs.declared.Number.{Number}
+use Rattle.numbershape.specs.declared.Number.the-variants as number
 use Rattle.grammar.specs.Ll.{Sym, lit, non}
 use Rattle.grammar.specs.Machine.{Res, fine, bad}
 use Rattle.grammar.specs.declared.Value.{Value}
@@ -32,13 +32,13 @@ use Rattle.grammar.specs.declared.Values.{Values}
 use Rattle.grammar.specs.declared.ReadEntry.{ReadEntry}
 use Rattle.grammar.specs.declared.Status.{Status}
 use Rattle.grammar.specs.declared.Status.the-variants as status
-use Rattle.grammar.specs.Grammar.{Term, N, Note, this, word, port, edges, time, _!_, _‼_, value, values, valueList, ⟨, ⟩, end?, edged, end, plain, Cls, file, header}
+use Rattle.grammar.specs.Grammar.{Term, N, Note, this, word, port, edges, time, _!_, _‼_, value, values, valueList, ⟨, ⟩, end?, edged, end, Cls, file, header}
 use Rattle.grammar.specs.Grammar as G
 use Rattle.grammar.specs.declared.Hand.{Hand}
 use Rattle.grammar.specs.declared.Hand.the-variants as hand
 use Rattle.grammar.specs.declared.Head.{Head}
-use Rattle.tokens.specs.Tokens.{tokenAt}
-use Rattle.tokens.specs.declared.Token.the-variants.{Got}
+use Rattle.tokenforms.specs.Tokens.{tokenAt}
+use Rattle.tokenforms.specs.declared.Token.the-variants.{Got}
 use Rattle.words.specs.Words.{keyOf}
 use Rattle.grammar.specs.Meaning.{Log, valued, pushed, timely, noted, nothing, headed, edgePut, endPut, Item, itemOf, started, entered, tidy}
 use Rattle.grammar.specs.Reading.{At, reading, stepped}

@@ -1,23 +1,23 @@
 -- The rules for whole entries: behind their keywords, and at the keyword, with the room that it needs.
 -- Assumes nothing.
-use mathlib.Core.Path.{_≡_, refl, ap, _∙_, sym}
+use mathlib.Core.Path.{_≡_, refl, _∙_}
 use mathlib.Core.Bool.{Bool, true, false}
 use mathlib.Core.List.{List, [], _∷_, _++_, append-assoc}
-use mathlib.Core.Option.{Option, none, some}
+use mathlib.Core.Option.{none, some}
 use mathlib.Core.Logic.{_⊎_, inl, inr}
-use Prim.Native.Nat.{ℕ, zero, suc, _+_, _-_, _≤_, _<_}
+use Prim.Native.Nat.{ℕ, _+_, _-_, _≤_, _<_}
 use native.Mathlib.Omega.{arith}
-use lib.Dec.{eqb, leb, ltb}
+use lib.Dec.{eqb}
 use lib.ListN.{length}
 use borrow.Author.Tests.{eq-eqb, ne-eqb, lt-leb, le-leb, eqb-true, eqb-false}
-use Rattle.classes.specs.Choice.{pick, within}
-use Rattle.tokens.specs.declared.Token.the-variants.{Got, Stop}
-use Rattle.tokens.specs.Tokens.{tokenAt}
+use Rattle.classes.specs.Choice.{pick}
+use Rattle.tokenforms.specs.declared.Token.the-variants.{Got, Stop}
+use Rattle.tokenforms.specs.Tokens.{tokenAt}
 use Rattle.tokens.specs.Stream.{Placed, placed}
 use Rattle.words.specs.Words.{keyOf}
 use Rattle.kinds.specs.Kinds.{hasSecond, rowsOf, isSigned, factsOf, table}
-use Rattle.grammar.specs.Ll.{Sym, lit, non, Alt, choose}
-use Rattle.grammar.specs.Machine.{Res, fine, bad}
+use Rattle.grammar.specs.Ll.{lit, non, choose}
+use Rattle.grammar.specs.Machine.{fine, bad}
 use Rattle.grammar.specs.declared.Value.{Value}
 use Rattle.grammar.specs.declared.Mark.the-variants as mark
 use Rattle.grammar.specs.declared.ReadValue.the-variants as rv
@@ -26,11 +26,11 @@ use Rattle.grammar.specs.declared.ReadEnd.the-variants as re
 use Rattle.grammar.specs.declared.Entry.{Entry}
 use Rattle.grammar.specs.declared.Status.{Status}
 use Rattle.grammar.specs.declared.Status.the-variants as status
-use Rattle.grammar.specs.Grammar.{Term, N, Note, word, keys, _‼_, _!_, _⇒_, entry, alts, fits, value, values, port, plain, close, end?, iopathTail, interconnectTail, portTail, valueList, twoEnds, oneValue, twoValues, device, delay, check, ⟨, ⟩close}
-use Rattle.grammar.specs.Meaning.{Log, pushed, started, entered, headOf, wrongly}
+use Rattle.grammar.specs.Grammar.{N, Note, word, keys, _‼_, _!_, _⇒_, entry, alts, fits, port, plain, close, end?, iopathTail, interconnectTail, portTail, valueList, twoEnds, oneValue, twoValues, device, delay, check}
+use Rattle.grammar.specs.Meaning.{Log, pushed, started, headOf, wrongly}
 use Rattle.grammar.specs.Reading.{reading, stepped, goes, halts}
 use Rattle.grammar.specs.Outcome.{Stack, state}
-use Rattle.rules.specs.Contracts.{Marked, OpensValue, ReadsValues, OpensValues, ValuesFrom, shut, listed, PortHere, ReadsPort, ReadsEnd, Entered, Listable, item}
+use Rattle.rules.specs.Contracts.{Marked, OpensValue, ReadsValues, OpensValues, ValuesFrom, shut, listed, PortHere, ReadsPort, ReadsEnd, Entered, Listable}
 use Rattle.rules.specs.Rules.{ahead, heads}
 
 -- an entry with these ends

@@ -1,51 +1,48 @@
 -- The rules by which the readers of the code are proved: one for each way through a reader, over the tokens it met. They say nothing of code.
 -- Assumes nothing.
-use mathlib.Core.Path.{_≡_, refl, ap, _∙_, sym, subst}
+use mathlib.Core.Path.{_≡_, refl, _∙_, sym}
 use mathlib.Core.Bool.{Bool, true, false}
 use mathlib.Core.List.{List, [], _∷_, _++_, append-assoc}
-use mathlib.Core.Option.{Option, none, some}
-use Prim.Native.Nat.{ℕ, zero, suc, _+_, _-_, _*_, _/_, _%_, _^_, _≤_, _<_}
+use mathlib.Core.Option.{none, some}
+use Prim.Native.Nat.{ℕ, _+_, _*_, _/_, _%_, _^_, _≤_, _<_}
 use native.Mathlib.Omega.{arith}
 use lib.Dec.{eqb, leb, ltb}
-use lib.ListN.{length, take}
+use lib.ListN.{length}
 use lib.IntN.{ℤ}
-use borrow.Author.Tests.{eq-eqb, ne-eqb, lt-ltb, le-ltb, le-leb, lt-leb, leb-true}
+use borrow.Author.Tests.{eq-eqb, ne-eqb, lt-ltb, le-ltb, le-leb, lt-leb}
 use Rattle.classes.specs.Choice.{pick}
-use Rattle.tokens.specs.declared.Token.the-variants.{Got, Stop}
-use Rattle.tokens.specs.Tokens.{tokenAt}
+use Rattle.tokenforms.specs.declared.Token.the-variants.{Got, Stop}
+use Rattle.tokenforms.specs.Tokens.{tokenAt}
 use Rattle.tokens.specs.Stream.{Placed, placed, onwards}
-use Rattle.words.specs.Words.{edgeOf, keyOf, edges}
+use Rattle.words.specs.Words.{edgeOf, edges}
 use Rattle.words.specs.Scales.{find-most}
-use Rattle.names.specs.Shape.{isPort}
-use Rattle.times.specs.Shape.{isNumber, partsOf}
-use Rattle.times.specs.Value.{numberOf, exact, withSign}
-use Rattle.times.specs.declared.Number.{Number}
-use Rattle.times.specs.declared.Number.the-variants as number
+use Rattle.nameshape.specs.Shape.{isPort}
+use Rattle.numbershape.specs.Shape.{isNumber, partsOf}
+use Rattle.numbershape.specs.Value.{numberOf, exact, withSign}
+use Rattle.numbershape.specs.declared.Number.{Number}
+use Rattle.numbershape.specs.declared.Number.the-variants as number
 use Rattle.grammar.specs.Ll.{Sym, lit, non, Alt, choose}
-use Rattle.grammar.specs.Machine.{Res, fine, bad, State, _then_, as-head}
+use Rattle.grammar.specs.Machine.{fine, bad, _then_, as-head}
 use Rattle.grammar.specs.declared.Amount.{Amount}
 use Rattle.grammar.specs.declared.Amount.the-variants.{Absent, Time}
 use Rattle.grammar.specs.declared.Value.{Value}
 use Rattle.grammar.specs.declared.Here.{Here}
 use Rattle.grammar.specs.declared.Here.the-variants as here
-use Rattle.grammar.specs.declared.Mark.{Mark}
 use Rattle.grammar.specs.declared.Mark.the-variants as mark
 use Rattle.grammar.specs.declared.ReadValue.{ReadValue}
 use Rattle.grammar.specs.declared.ReadValue.the-variants as rv
-use Rattle.grammar.specs.declared.ReadName.{ReadName}
 use Rattle.grammar.specs.declared.ReadName.the-variants as rn
-use Rattle.grammar.specs.declared.EdgeHere.{EdgeHere}
 use Rattle.grammar.specs.declared.EdgeHere.the-variants as eh
 use Rattle.grammar.specs.declared.ReadEnd.{ReadEnd}
 use Rattle.grammar.specs.declared.ReadEnd.the-variants as re
 use Rattle.grammar.specs.declared.Status.{Status}
 use Rattle.grammar.specs.declared.Status.the-variants as status
-use Rattle.grammar.specs.Grammar.{Term, N, Note, time, _!_, _‼_, this, value, second, third, first, alts, whole, fits, skip, closes, colon, _⇒_, values, opens, close, port, edged, end, plain, end?, ⟩, ⟨, ⟩close}
+use Rattle.grammar.specs.Grammar.{Term, N, time, _!_, _‼_, this, value, second, third, first, alts, whole, fits, skip, closes, colon, _⇒_, values, port, edged, end, plain, end?, ⟩}
 use Rattle.grammar.specs.Grammar as G
-use Rattle.grammar.specs.Meaning.{Log, Book, valued, pushed, timely, noted, judge, wrong, nothing, wrongly, headed, edgePut, endPut, end-put}
+use Rattle.grammar.specs.Meaning.{Log, judge, wrong, nothing, wrongly, headed, edgePut, end-put}
 use Rattle.grammar.specs.Reading.{At, reading, stepped, goes, halts}
 use Rattle.grammar.specs.Outcome.{Stack, state}
-use Rattle.rules.specs.Contracts.{NumberHere, Marked, Reads, ReadsValue, tookNumber, afterValue, Ahead, OpensValue, Listed, listed, ReadsValues, OpensValues, ValuesFrom, PortHere, ReadsPort, anEdge, EdgeIs, EndFrom, ReadsEnd, ReadsEdged}
+use Rattle.rules.specs.Contracts.{NumberHere, Marked, Reads, ReadsValue, tookNumber, Ahead, OpensValue, Listed, listed, ReadsValues, OpensValues, PortHere, ReadsPort, anEdge, EdgeIs, ReadsEnd, ReadsEdged}
 
 -- a token goes forward, and ends within the text
 pub ahead : (s : List ℕ) (p k b e : ℕ) (l : Bool) → p ≤ length s → tokenAt s p ≡ Got k b e l → (p < e) × (e ≤ length s)

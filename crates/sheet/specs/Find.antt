@@ -1,23 +1,23 @@
 -- The instance with a path and the arc with a key, or none; and what a checked sheet gives a search.
 -- Assumes nothing.
-use Prim.Native.Nat.{ℕ, zero, suc, _+_, _-_, _*_, _≤_, _<_}
-use mathlib.Core.Path.{_≡_, refl, sym, ap, _∙_}
+use Prim.Native.Nat.{ℕ, zero, suc, _+_, _-_, _≤_, _<_}
+use mathlib.Core.Path.{_≡_, refl, ap, _∙_}
 use mathlib.Core.Bool.{Bool, true, false}
 use mathlib.Core.List.{List, [], _∷_}
 use native.Mathlib.Omega.{arith}
 use lib.Dec.{leb, eqb}
-use lib.ListN.{length, getD}
+use lib.ListN.{length}
 use borrow.Author.Tests.{eqb-true, leb-true}
 use Rattle.classes.specs.Choice.{pick}
 use Rattle.wire.specs.Wire.{Bytes, be32}
-use Rattle.names.specs.Order.{cmp, cmpNum, andThen}
+use Rattle.names.specs.Order.{cmp, cmpNum}
 use Rattle.names.specs.Orders.{Order, num-order, cmp-order, by-part, in-turn, num-1, cmp-1, then-1}
 use Rattle.names.specs.Name.{canon, full}
-use Rattle.sheetform.specs.Form.{Key, cmpKey, oneEnd, chain, reach, keyAt, valuesAt, pathAt, arStep, arcsStep, inStep, insStep, headStep, frontStep, backStep, endStep, verdict, checkOf}
-use Rattle.sheetform.specs.Passed.{chain-next, clear, ar-next, in-next, head-next}
-use Rattle.sheetform.specs.declared.Step.{Step}
-use Rattle.sheetform.specs.declared.Step.the-variants.{Next, Fault}
-use Rattle.sheetform.specs.declared.SheetCheck.the-variants.{Good, Bad}
+use Rattle.sheetparts.specs.Form.{Key, cmpKey, oneEnd, reach, keyAt, pathAt, arStep, arcsStep, inStep, insStep, headStep, frontStep, backStep, endStep, verdict, checkOf}
+use Rattle.sheetparts.specs.Passed.{chain-next, clear, ar-next, in-next, head-next}
+use Rattle.sheetparts.specs.declared.Step.{Step}
+use Rattle.sheetparts.specs.declared.Step.the-variants.{Next, Fault}
+use Rattle.sheetparts.specs.declared.SheetCheck.the-variants.{Good, Bad}
 use Rattle.sheetlaws.specs.Sheet.{arNext, inEnd, nth, place}
 use Rattle.sheetlaws.specs.Sound.{rises}
 use Rattle.sheetlaws.specs.Instances.{in-rises}

@@ -4,17 +4,17 @@ use Prim.Native.Nat.{ℕ, zero, suc, _+_, _-_, _≤_, _<_}
 use mathlib.Core.Path.{_≡_, refl, sym, ap, _∙_}
 use mathlib.Core.Bool.{Bool, true, false}
 use native.Mathlib.Omega.{arith}
-use mathlib.Core.List.{List, [], _∷_}
+use mathlib.Core.List.{List}
 use Rattle.classes.specs.Choice.{and}
 use Rattle.wire.specs.Wire.{part}
 use Rattle.names.specs.Order.{sameText}
-use Rattle.sheetform.specs.Form.{valuesAt, arStep, arcsStep}
+use Rattle.sheetparts.specs.Form.{valuesAt, arStep, arcsStep}
 use Rattle.sheetlaws.specs.Sheet.{arNext, nth, place}
 use Rattle.names.specs.Name.{both}
 use Rattle.names.specs.Laws.{text-exactly}
-use Rattle.sheetform.specs.Passed.{chain-next, same, ar-next}
-use Rattle.sheetform.specs.declared.Step.the-variants.{Next, Fault}
-use lib.Dec.{ltb, leb}
+use Rattle.sheetparts.specs.Passed.{chain-next, same, ar-next}
+use Rattle.sheetparts.specs.declared.Step.the-variants.{Next}
+use lib.Dec.{ltb}
 use lib.ListN.{length, getD, drop, length-drop}
 use lib.Seq.{getD-take, getD-drop, ext-getD, length-take-le}
 use borrow.Author.Tests.{ltb-true, ltb-false}

@@ -2,13 +2,12 @@
 -- for instances and arcs: `key` is what stands at a place, `next` the place behind it, `c` the order of keys.
 -- Assumes nothing.
 use Prim.Native.Nat.{ℕ, zero, suc, _+_, _-_, _*_, _/_, _≤_, _<_}
-use mathlib.Core.Path.{_≡_, refl, sym, ap, _∙_}
+use mathlib.Core.Path.{_≡_, refl, ap, _∙_}
 use mathlib.Core.Bool.{Bool, true, false}
-use mathlib.Core.List.{List, [], _∷_}
+use mathlib.Core.List.{List}
 use native.Mathlib.Omega.{arith}
 use native.Mathlib.Numerals.{add-one}
 use native.Mathlib.Nat.{zero-mul, mul-div-cancel, div-lt-iff-lt-mul, mul-le-mul}
-use mathlib.Core.Logic.{_⊎_, inl, inr, ⊎-elim}
 use lib.Seq.{getD-set-same, getD-set-other}
 use lib.Dec.{ltb, eqb}
 use lib.ListN.{length, getD, set, length-set}

@@ -1,9 +1,8 @@
 // Use of a timing sheet that was checked: its records one by one, the search for an instance and for an arc, its values, and whether two
 // sheets have the same records (document 01, 'The timing sheet', 'Annotating', refusal 18).
 ghost use mathlib.Core.Path.{_≡_};
-ghost use mathlib.Core.Bool.{Bool, true, false};
-ghost use mathlib.Core.List.{List};
-ghost use Prim.Native.Nat.{ℕ, _+_, _*_, _/_, _-_, _≤_, _<_};
+ghost use mathlib.Core.Bool.{true, false};
+ghost use Prim.Native.Nat.{_+_, _*_, _/_, _-_, _≤_, _<_};
 ghost use lib.Dec.{ltb, eqb};
 ghost use lib.ListN.{length};
 ghost use lib.Seq.{paste};
@@ -13,7 +12,7 @@ ghost use Rattle.classes.specs.Choice.{pick};
 ghost use Rattle.wire.specs.Wire.{part, be64, beBytes};
 ghost use Rattle.names.specs.Order.{cmp, sameText};
 ghost use Rattle.names.specs.Name.{canon};
-ghost use Rattle.sheetform.specs.Form.{oneEnd, keyAt, valuesAt, pathAt, typeAt, cmpKey};
+ghost use Rattle.sheetparts.specs.Form.{keyAt, valuesAt, pathAt, typeAt, cmpKey};
 ghost use Rattle.sheetlaws.specs.Sheet.{arNext, inEnd, nth, place};
 ghost use Rattle.sheet.specs.Search.{strideOf, putMark, marked, NotBeyond};
 ghost use Rattle.sheet.specs.Find.{secondWanted, wanted, findArc, findInstance, ArcsGood, InsGood, ArcSearch, InstanceSearch};
@@ -36,8 +35,8 @@ pub fn next_instance(sheet: &[u8], place: usize) -> usize
     requires { ⌜ inEnd (now sheet) place ≤ length (now sheet) ⌝ }
     ensures { λ r. ⌜ r ≡ inEnd (now (sheet .entry)) place ⌝ }
 {
-    let m = sheetform::path_len(sheet, place);
-    let n = sheetform::type_len(sheet, place);
+    let m = sheetparts::path_len(sheet, place);
+    let n = sheetparts::type_len(sheet, place);
     place + 6 + m + n
 }
 
@@ -45,7 +44,7 @@ pub fn instance_path(sheet: &[u8], place: usize) -> &[u8]
     requires { ⌜ inEnd (now sheet) place ≤ length (now sheet) ⌝ }
     ensures { λ r. ⌜ now r ≡ pathAt (now (sheet .entry)) place ⌝ }
 {
-    let m = sheetform::path_len(sheet, place);
+    let m = sheetparts::path_len(sheet, place);
     let start = place + 4;
     let end = start + m;
     &sheet[start..end]
@@ -55,8 +54,8 @@ pub fn instance_type(sheet: &[u8], place: usize) -> &[u8]
     requires { ⌜ inEnd (now sheet) place ≤ length (now sheet) ⌝ }
     ensures { λ r. ⌜ now r ≡ typeAt (now (sheet .entry)) place ⌝ }
 {
-    let m = sheetform::path_len(sheet, place);
-    let n = sheetform::type_len(sheet, place);
+    let m = sheetparts::path_len(sheet, place);
+    let n = sheetparts::type_len(sheet, place);
     let start = place + 6 + m;
     let end = start + n;
     &sheet[start..end]
@@ -82,7 +81,7 @@ pub fn arc_edge2(sheet: &[u8], place: usize) -> u8
     requires { ⌜ arNext (now sheet) place ≤ length (now sheet) ⌝ }
     ensures { λ r. ⌜ r ≡ keyAt (now (sheet .entry)) place .edge2 ⌝ }
 {
-    let m = sheetform::first_len(sheet, place);
+    let m = sheetparts::first_len(sheet, place);
     sheet[place + 6 + m]
 }
 
@@ -90,7 +89,7 @@ pub fn first_end(sheet: &[u8], place: usize) -> &[u8]
     requires { ⌜ arNext (now sheet) place ≤ length (now sheet) ⌝ }
     ensures { λ r. ⌜ now r ≡ keyAt (now (sheet .entry)) place .first ⌝ }
 {
-    let m = sheetform::first_len(sheet, place);
+    let m = sheetparts::first_len(sheet, place);
     let start = place + 6;
     let end = start + m;
     &sheet[start..end]
@@ -100,8 +99,8 @@ pub fn second_end(sheet: &[u8], place: usize) -> &[u8]
     requires { ⌜ arNext (now sheet) place ≤ length (now sheet) ⌝ }
     ensures { λ r. ⌜ now r ≡ keyAt (now (sheet .entry)) place .second ⌝ }
 {
-    let m = sheetform::first_len(sheet, place);
-    let n = sheetform::second_len(sheet, place);
+    let m = sheetparts::first_len(sheet, place);
+    let n = sheetparts::second_len(sheet, place);
     let start = place + 9 + m;
     let end = start + n;
     &sheet[start..end]
@@ -112,8 +111,8 @@ pub fn values_place(sheet: &[u8], place: usize) -> usize
     requires { ⌜ arNext (now sheet) place ≤ length (now sheet) ⌝ }
     ensures { λ r. ⌜ r ≡ valuesAt (now (sheet .entry)) place ⌝ }
 {
-    let m = sheetform::first_len(sheet, place);
-    let n = sheetform::second_len(sheet, place);
+    let m = sheetparts::first_len(sheet, place);
+    let n = sheetparts::second_len(sheet, place);
     place + 9 + m + n
 }
 
@@ -184,7 +183,7 @@ fn second_vs(sheet: &[u8], place: usize, kind: u8, path: &[u8], name: &[u8], sla
     ensures { λ r. ⌜ r ≡ cmp (keyAt (now (sheet .entry)) place .second) (secondWanted slash kind (now (path .entry)) (now (name .entry))) ⌝ }
 {
     let end = second_end(sheet, place);
-    if sheetform::one_end(kind) {
+    if sheetparts::one_end(kind) {
         if end.len() == 0 {
             return SAME;
         }

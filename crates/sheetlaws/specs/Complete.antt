@@ -1,27 +1,26 @@
 -- The encoding of what is well formed is read back, without a fault.
 -- Assumes nothing.
-use Prim.Native.Nat.{ℕ, zero, suc, _+_, _-_, _*_, _/_, _%_, _≤_, _<_, _^_}
+use Prim.Native.Nat.{ℕ, suc, _+_, _-_, _*_, _/_, _%_, _≤_, _<_}
 use mathlib.Core.Path.{_≡_, refl, sym, ap, _∙_}
 use mathlib.Core.Bool.{Bool, true, false}
 use mathlib.Core.List.{List, [], _∷_, _++_}
 use native.Mathlib.Omega.{arith}
 use native.Mathlib.Nat.{add-zero}
-use lib.Dec.{ltb, leb, eqb}
 use lib.IntN.{ℤ}
 use lib.ListN.{length, getD, take, drop, length-append, length-drop}
 use lib.Seq.{drop-drop, getD-drop, take-at, drop-at}
 use borrow.Author.Tests.{eq-eqb, ne-eqb}
 use mir.Syntax.{w64}
-use mir.Val.{Fits, SFits, toZ, ofZ}
+use mir.Val.{SFits, toZ, ofZ}
 use mir.ValLaws.{toZ-ofZ, ofZ-fits}
 use Rattle.wire.specs.Wire.{be64, part, be16, enc16}
 use Rattle.wire.specs.Round.{round}
 use Rattle.classes.specs.Choice.{pick}
-use Rattle.sheetform.specs.Form.{cmpKey, Key, secondMost, oneEnd, valueOk, valuesStep, firstLen, secondLen, valuesAt, keyAt, orderStep, arStep, arcsStep}
-use Rattle.sheetform.specs.Passed.{ArGood, values-next}
+use Rattle.sheetparts.specs.Form.{cmpKey, Key, secondMost, oneEnd, valueOk, valuesStep, firstLen, secondLen, valuesAt, keyAt, orderStep, arStep, arcsStep}
+use Rattle.sheetparts.specs.Passed.{ArGood, values-next}
 use Rattle.sheetlaws.specs.Goes.{value-is, key-is, fields-is}
 use Rattle.sheetlaws.specs.Sheet.{none, key, Arc, encText, encValue, encValues, encKey, encArc, encArcs, valuesOk, Fit, ArcOk, From, Above, ArcsOk, valuesOf, arNext, arcsAt}
-use Rattle.sheetform.specs.declared.Step.the-variants.{Next}
+use Rattle.sheetparts.specs.declared.Step.the-variants.{Next}
 
 pub split : (t : Bool) (x : Bool) → pick t x false ≡ true → (t ≡ true) × (x ≡ true)
 split true x e = (refl, e)

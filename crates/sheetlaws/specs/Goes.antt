@@ -1,17 +1,17 @@
 -- The other way: where the fields are there as they should be, a step goes on.
 -- Assumes nothing.
-use Prim.Native.Nat.{ℕ, zero, suc, _+_, _-_, _*_, _≤_, _<_}
-use mathlib.Core.Path.{_≡_, refl, sym, ap, _∙_}
-use mathlib.Core.Bool.{Bool, true, false}
-use mathlib.Core.List.{List, [], _∷_}
+use Prim.Native.Nat.{ℕ, _+_, _-_, _≤_}
+use mathlib.Core.Path.{_≡_}
+use mathlib.Core.Bool.{true}
+use mathlib.Core.List.{List}
 use native.Mathlib.Omega.{arith}
 use lib.ListN.{length, getD}
 use borrow.Author.Tests.{le-leb, eq-eqb}
 use Rattle.wire.specs.Wire.{part, be16, be64}
-use Rattle.sheetform.specs.Form.{shapeOk, edgeTop, edgeTop2, secondLeast, secondMost, valueOk, roomStep, markStep, kindStep, edgeStep, lenStep, nameStep, valueStep, firstLen, secondLen, valuesAt, keyStep, arRest, arFields, pathLen, typeLen, pathStep, inFields, headStep, formatStep}
+use Rattle.sheetparts.specs.Form.{shapeOk, edgeTop, edgeTop2, secondLeast, secondMost, valueOk, roomStep, markStep, kindStep, edgeStep, lenStep, nameStep, valueStep, firstLen, secondLen, valuesAt, keyStep, arRest, arFields, pathLen, typeLen, pathStep, inFields, headStep, formatStep}
 use Rattle.kinds.specs.Kinds.{isKind}
-use Rattle.sheetform.specs.Passed.{ArGood, InGood}
-use Rattle.sheetform.specs.declared.Step.the-variants.{Next}
+use Rattle.sheetparts.specs.Passed.{ArGood, InGood}
+use Rattle.sheetparts.specs.declared.Step.the-variants.{Next}
 
 module _ (b : List ℕ) where
   pub room-is : (n p : ℕ) → p + n ≤ length b → roomStep b n p ≡ Next (p + n)

@@ -1,22 +1,21 @@
 -- Instances: both ways, as for arcs.
 -- Assumes nothing.
-use Prim.Native.Nat.{ℕ, zero, suc, _+_, _-_, _*_, _≤_, _<_}
-use mathlib.Core.Path.{_≡_, refl, sym, ap, _∙_}
-use mathlib.Core.Bool.{Bool, true, false}
-use mathlib.Core.List.{List, [], _∷_, _++_}
+use Prim.Native.Nat.{ℕ, zero, suc, _+_, _≤_, _<_}
+use mathlib.Core.Path.{_≡_, refl, ap, _∙_}
+use mathlib.Core.List.{List, [], _∷_}
 use native.Mathlib.Omega.{arith}
-use lib.Dec.{leb, eqb}
-use lib.ListN.{length, getD, take, drop}
+use lib.Dec.{eqb}
+use lib.ListN.{length, getD, drop}
 use borrow.Author.Tests.{eqb-true, eq-eqb, ne-eqb}
 use Rattle.wire.specs.Wire.{part, be16, Bytes}
 use Rattle.names.specs.Order.{cmp}
-use Rattle.sheetform.specs.Form.{pathLen, typeLen, pathAt, typeAt, pathStep, inOrderStep, inStep, insStep}
+use Rattle.sheetparts.specs.Form.{pathLen, typeLen, pathAt, typeAt, pathStep, inOrderStep, inStep, insStep}
 use Rattle.sheetlaws.specs.Sheet.{inEnd, first, InOk, FromPath, after, AbovePath, InsOk, Instance, encText, encIn, encIns, inAt, insAt}
-use Rattle.sheetform.specs.Passed.{chain-next, clear, same, InGood, in-next, in-fields-next}
+use Rattle.sheetparts.specs.Passed.{chain-next, clear, same, InGood, in-next, in-fields-next}
 use Rattle.sheetlaws.specs.Goes.{path-is, in-fields-is}
 use Rattle.sheetlaws.specs.Sound.{span-byte, span-text, part-length}
 use Rattle.sheetlaws.specs.Complete.{un-byte, un-text}
-use Rattle.sheetform.specs.declared.Step.the-variants.{Next}
+use Rattle.sheetparts.specs.declared.Step.the-variants.{Next}
 
 module _ (b : List ℕ) where
   abbrev KnownPath : FromPath → ℕ → Type 0

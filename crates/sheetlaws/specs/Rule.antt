@@ -1,18 +1,18 @@
 -- Which values may stand in a slot, said of numbers; the form's test of bits says just that.
 -- Assumes nothing.
-use Prim.Native.Nat.{ℕ, zero, suc, _+_, _-_, _*_, _≤_, _<_, _^_}
-use mathlib.Core.Path.{_≡_, refl, sym, ap, _∙_}
+use Prim.Native.Nat.{ℕ, suc, _-_, _≤_, _<_}
+use mathlib.Core.Path.{_≡_, refl}
 use mathlib.Core.Bool.{Bool, true, false}
 use mathlib.Core.Logic.{_↔_}
 use native.Mathlib.Omega.{arith}
 use lib.Dec.{leb, eqb}
 use lib.IntN.{ℤ, pos, negsuc}
 use mir.Syntax.{w64}
-use mir.Val.{SFits, toZ, ofZ}
-use borrow.Author.Tests.{leb-true, leb-false, eqb-true, eqb-false, le-leb, lt-leb, eq-eqb, ne-eqb}
+use mir.Val.{SFits, ofZ}
+use borrow.Author.Tests.{leb-true, leb-false, eqb-true, le-leb, lt-leb, ne-eqb}
 use Rattle.classes.specs.Choice.{pick}
 use Rattle.kinds.specs.Kinds.{isSigned}
-use Rattle.sheetform.specs.Form.{used, valueOk}
+use Rattle.sheetparts.specs.Form.{used, valueOk}
 
 -- 'The least 64-bit number means empty'
 abbrev pub least : ℤ

@@ -1,27 +1,26 @@
 -- Writing one value is setting one slot of the whole sheet that the bytes spell, and the sheet stays well formed.
 -- Assumes nothing.
-use Prim.Native.Nat.{ℕ, zero, suc, _+_, _-_, _*_, _/_, _%_, _≤_, _<_}
+use Prim.Native.Nat.{ℕ, zero, suc, _+_, _*_, _/_, _%_, _<_}
 use mathlib.Core.Path.{_≡_, refl, sym, ap, _∙_}
 use mathlib.Core.Bool.{Bool, true, false}
 use mathlib.Core.List.{List, [], _∷_, _++_}
 use native.Mathlib.Omega.{arith}
-use lib.Dec.{leb, eqb}
+use lib.Dec.{leb}
 use lib.IntN.{ℤ}
-use lib.ListN.{length, getD, take, drop, set, length-append, length-set}
+use lib.ListN.{length, drop, set, length-append, length-set}
 use lib.Seq.{paste}
 use mir.Syntax.{w64}
-use mir.Val.{SFits, toZ, ofZ}
-use borrow.Author.Tests.{leb-true}
+use mir.Val.{SFits, ofZ}
 use Rattle.classes.specs.Choice.{pick}
 use Rattle.wire.specs.Wire.{Bytes, be32, beBytes, enc16, enc32}
-use Rattle.sheetform.specs.Form.{Key, chain, reach, valueOk, valuesAt, pathLen, typeLen, pathAt, typeAt, inStep, insStep, headStep, arcsStep, frontStep, backStep, verdict, checkOf}
-use Rattle.sheetform.specs.Passed.{chain-next, same, in-next, head-next}
-use Rattle.sheetform.specs.declared.Step.{Step}
-use Rattle.sheetform.specs.declared.Step.the-variants.{Next, Fault}
-use Rattle.sheetform.specs.declared.SheetCheck.the-variants.{Good, Bad}
-use Rattle.sheetlaws.specs.Sheet.{Arc, Instance, Sheet, encText, encValues, encKey, encArc, encArcs, encIn, encIns, encode, none, ArcsOk, WellFormed, sheet, fault, decode, decodeOf, place, inAt, inEnd, insAt, arcsAt}
+use Rattle.sheetparts.specs.Form.{Key, reach, valueOk, valuesAt, pathLen, typeLen, inStep, insStep, headStep, frontStep, backStep, verdict, checkOf}
+use Rattle.sheetparts.specs.Passed.{chain-next, same, in-next, head-next}
+use Rattle.sheetparts.specs.declared.Step.{Step}
+use Rattle.sheetparts.specs.declared.Step.the-variants.{Next, Fault}
+use Rattle.sheetparts.specs.declared.SheetCheck.the-variants.{Good, Bad}
+use Rattle.sheetlaws.specs.Sheet.{Arc, Instance, Sheet, encValues, encKey, encArcs, encIn, encIns, encode, none, WellFormed, sheet, decode, place, inEnd, insAt, arcsAt}
 use Rattle.sheetlaws.specs.Sound.{part-length}
-use Rattle.sheetlaws.specs.Values.{paste-behind, keyLen, setSlot, off, All18, all18, arcs-paste, kindOf, set-ok, length-setSlot, off-place}
+use Rattle.sheetlaws.specs.Values.{paste-behind, setSlot, off, All18, all18, arcs-paste, kindOf, set-ok, length-setSlot, off-place}
 use Rattle.sheetlaws.specs.Whole.{decode-sound, decode-complete, length-arcsAt, arcs-to-end}
 
 -- slot i of arc j of a sheet

@@ -4,16 +4,15 @@ use Prim.Native.Nat.{ℕ, zero, suc, _+_, _≤_, _<_}
 use mathlib.Core.Path.{_≡_}
 use mathlib.Core.Bool.{Bool, true, false}
 use mathlib.Core.List.{List, [], _∷_, _++_}
-use lib.Dec.{leb, eqb}
 use lib.IntN.{ℤ}
-use lib.ListN.{length, getD}
+use lib.ListN.{length}
 use mir.Syntax.{w64}
 use mir.Val.{SFits, toZ, ofZ}
 use Rattle.wire.specs.Wire.{beBytes, be64, enc16, enc32}
 use Rattle.classes.specs.Choice.{pick}
-use Rattle.sheetform.specs.Form.{shapeOk, checkOf, cmpKey, Key, edgeTop, edgeTop2, secondLeast, secondMost, valueOk, valuesAt, keyAt, pathLen, typeLen, pathAt, typeAt}
-use Rattle.sheetform.specs.declared.SheetCheck.{SheetCheck}
-use Rattle.sheetform.specs.declared.SheetCheck.the-variants.{Good, Bad}
+use Rattle.sheetparts.specs.Form.{shapeOk, checkOf, cmpKey, Key, edgeTop, edgeTop2, secondLeast, secondMost, valueOk, valuesAt, keyAt, pathLen, typeLen, pathAt, typeAt}
+use Rattle.sheetparts.specs.declared.SheetCheck.{SheetCheck}
+use Rattle.sheetparts.specs.declared.SheetCheck.the-variants.{Good, Bad}
 use Rattle.names.specs.Order.{cmp}
 use Rattle.kinds.specs.Kinds.{isKind}
 

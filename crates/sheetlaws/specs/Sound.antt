@@ -1,25 +1,24 @@
 -- A record in which no step has found a fault is the encoding of what is read there.
 -- Assumes nothing.
-use Prim.Native.Nat.{ℕ, zero, suc, _+_, _-_, _*_, _/_, _%_, _≤_, _<_, _^_}
+use Prim.Native.Nat.{ℕ, zero, suc, _+_, _*_, _/_, _%_, _≤_, _<_, _^_}
 use mathlib.Core.Path.{_≡_, refl, sym, ap, _∙_}
-use mathlib.Core.Bool.{Bool, true, false}
-use mathlib.Core.List.{List, [], _∷_, _++_}
+use mathlib.Core.Bool.{true}
+use mathlib.Core.List.{List, _∷_, _++_}
 use native.Mathlib.Omega.{arith}
 use native.Mathlib.Numerals.{add-one}
-use lib.Dec.{ltb, leb, eqb}
-use lib.IntN.{ℤ}
-use lib.ListN.{length, getD, take, drop, take-append-drop, length-drop}
+use lib.Dec.{eqb}
+use lib.ListN.{length, getD, drop, take-append-drop, length-drop}
 use lib.Seq.{drop-cons, drop-drop, length-take-le}
-use borrow.Author.Tests.{leb-true, eqb-true, ne-eqb}
+use borrow.Author.Tests.{eqb-true, ne-eqb}
 use Rattle.sheetlaws.specs.Goes.{key-is}
 use Rattle.wire.specs.Wire.{be64, beBytes, part, be16, Bytes}
 use Rattle.wire.specs.Round.{eight-digits}
-use Rattle.sheetform.specs.Form.{cmpKey, valueStep, valuesStep, firstLen, secondLen, valuesAt, keyAt, keyStep, orderStep, arStep, arcsStep}
-use Rattle.sheetform.specs.Passed.{chain-next, clear, same, value-next, ArGood, ar-next, fields-next}
+use Rattle.sheetparts.specs.Form.{cmpKey, valueStep, valuesStep, firstLen, secondLen, valuesAt, keyAt, keyStep, orderStep, arStep, arcsStep}
+use Rattle.sheetparts.specs.Passed.{chain-next, clear, same, value-next, ArGood, ar-next, fields-next}
 use Rattle.sheetlaws.specs.Sheet.{none, key, encText, encValue, encValues, encKey, encArc, encArcs, valuesOk, Fit, ArcOk, From, Above, ArcsOk, valuesOf, arcAt, arNext, arcsAt}
-use Rattle.sheetform.specs.declared.Step.the-variants.{Next}
+use Rattle.sheetparts.specs.declared.Step.the-variants.{Next}
 use mir.Syntax.{w64}
-use mir.Val.{Fits, SFits, toZ, ofZ}
+use mir.Val.{toZ}
 use mir.ValLaws.{ofZ-toZ, toZ-fits}
 
 module _ (b : List ℕ) (bytes : Bytes b) where

@@ -1,22 +1,22 @@
 -- Setting one value is setting one slot of the sheet that the bytes spell.
 -- Assumes nothing.
-use Prim.Native.Nat.{ℕ, zero, suc, _+_, _-_, _*_, _/_, _%_, _≤_, _<_, _^_}
+use Prim.Native.Nat.{ℕ, zero, suc, _+_, _*_, _/_, _%_, _≤_, _<_}
 use mathlib.Core.Path.{_≡_, refl, sym, ap, _∙_}
-use mathlib.Core.Bool.{Bool, true, false}
+use mathlib.Core.Bool.{true}
 use mathlib.Core.List.{List, [], _∷_, _++_, append-assoc}
 use native.Mathlib.Omega.{arith}
-use native.Mathlib.Nat.{add-assoc, add-zero, zero-add}
+use native.Mathlib.Nat.{add-zero, zero-add}
 use lib.IntN.{ℤ}
-use lib.ListN.{length, getD, take, drop, set, length-append, length-drop, length-take, length-set, take-append-drop}
-use lib.Seq.{paste, take-append-add, drop-append-add, drop-append-le, drop-drop, take-add, take-append-le, length-take-le, drop-append-seam, take-append-seam, drop-at}
+use lib.ListN.{length, take, drop, set, length-drop, length-set, take-append-drop}
+use lib.Seq.{paste, take-append-add, drop-append-add, length-take-le, drop-append-seam, drop-at}
 use mir.Syntax.{w64}
-use mir.Val.{Fits, SFits, toZ, ofZ}
+use mir.Val.{SFits, ofZ}
 use Rattle.wire.specs.Wire.{beBytes}
-use Rattle.sheetform.specs.Form.{Key, firstLen, secondLen, valuesAt, keyAt, arcsStep, valueOk}
+use Rattle.sheetparts.specs.Form.{Key, firstLen, secondLen, valuesAt, keyAt, arcsStep, valueOk}
 use Rattle.sheetlaws.specs.Sheet.{nth, place, none, key, Arc, encValues, encKey, encArcs, valuesOk, Fit, From, ArcsOk, arNext, arcsAt}
 use Rattle.sheetlaws.specs.Complete.{arcs-complete, split, un-arc}
-use Rattle.sheetform.specs.Passed.{ArGood}
-use Rattle.sheetform.specs.declared.Step.the-variants.{Next}
+use Rattle.sheetparts.specs.Passed.{ArGood}
+use Rattle.sheetparts.specs.declared.Step.the-variants.{Next}
 
 -- what is pasted behind x
 pub paste-behind : (x t s : List ℕ) (i n : ℕ) → paste (x ++ t) (length x + i) s n ≡ x ++ paste t i s n

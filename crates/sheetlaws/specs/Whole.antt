@@ -1,27 +1,27 @@
 -- The whole sheet: decode gives s exactly if s is well formed and encodes to these bytes.
 -- Assumes nothing.
-use Prim.Native.Nat.{ℕ, zero, suc, _+_, _-_, _*_, _/_, _%_, _≤_, _<_}
+use Prim.Native.Nat.{ℕ, zero, suc, _+_, _-_, _/_, _%_, _≤_, _<_}
 use mathlib.Core.Path.{_≡_, refl, sym, ap, _∙_}
 use mathlib.Core.Bool.{Bool, true, false}
 use mathlib.Core.Logic.{_↔_}
-use mathlib.Core.List.{List, [], _∷_, _++_}
+use mathlib.Core.List.{List, [], _∷_}
 use native.Mathlib.Omega.{arith}
 use lib.Dec.{leb, eqb}
-use lib.ListN.{length, getD, take, drop, drop-of-length-le, length-drop}
+use lib.ListN.{length, getD, drop, drop-of-length-le, length-drop}
 use borrow.Author.Tests.{eqb-true, eq-eqb, le-leb, leb-true}
 use Rattle.classes.specs.Choice.{pick}
 use Rattle.wire.specs.Wire.{be32, enc32, Bytes}
-use Rattle.sheetform.specs.Form.{reach, arStep, arcsStep, insStep, headStep, endStep, frontStep, backStep, verdict, checkOf}
+use Rattle.sheetparts.specs.Form.{reach, arStep, arcsStep, insStep, headStep, endStep, frontStep, backStep, verdict, checkOf}
 use Rattle.sheetlaws.specs.Sheet.{none, first, Sheet, encIns, encArcs, encode, insAt, arcsAt, arNext, WellFormed, sheet, fault, decodeOf, decode}
-use Rattle.sheetform.specs.Passed.{chain-next, clear, same, ar-next, head-next}
+use Rattle.sheetparts.specs.Passed.{chain-next, clear, same, ar-next, head-next}
 use Rattle.sheetlaws.specs.Goes.{head-is}
 use Rattle.wire.specs.Round.{four, round32}
 use Rattle.sheetlaws.specs.Sound.{span-byte, span16, arcs-sound}
 use Rattle.sheetlaws.specs.Complete.{un-byte, un16, arcs-complete}
 use Rattle.sheetlaws.specs.Instances.{ins-sound, ins-complete}
-use Rattle.sheetform.specs.declared.Step.{Step}
-use Rattle.sheetform.specs.declared.Step.the-variants.{Next, Fault}
-use Rattle.sheetform.specs.declared.SheetCheck.the-variants.{Good, Bad}
+use Rattle.sheetparts.specs.declared.Step.{Step}
+use Rattle.sheetparts.specs.declared.Step.the-variants.{Next, Fault}
+use Rattle.sheetparts.specs.declared.SheetCheck.the-variants.{Good, Bad}
 
 pub length-arcsAt : (b : List ℕ) (n p : ℕ) → length (arcsAt b n p) ≡ n
 unfolding arcsAt

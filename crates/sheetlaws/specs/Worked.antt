@@ -13,13 +13,13 @@ use mir.Syntax.{w64}
 use mir.Val.{ofZ}
 use Rattle.classes.specs.Choice.{pick}
 use Rattle.wire.specs.Wire.{be16, be32, be64, beBytes, enc16, enc32}
-use Rattle.names.specs.Shape.{isNameByte, isEscapable, divider, bodyNext, bracketNext, nameNext, nameRun, mayEnd, isPath, isPort, isLegal, escapes, mayFollow, textFrom, isText}
+use Rattle.nameshape.specs.Shape.{isNameByte, isEscapable, divider, bodyNext, bracketNext, nameNext, nameRun, mayEnd, isPath, isPort, isLegal, escapes, mayFollow, textFrom, isText}
 use Rattle.names.specs.Order.{cmp, cmpNum}
 use Rattle.kinds.specs.Kinds.{table, factsOf, isKind, hasEdge, hasSecond, hasEdge2, isSigned, rowsOf}
-use Rattle.sheetform.specs.Form.{shapeOk, oneEnd, edgeTop, edgeTop2, secondLeast, secondMost, used, valueOk, roomStep, markStep, kindStep, edgeStep, lenStep, nameStep, valueStep, valuesStep, firstLen, secondLen, Key, cmpKey, keyAt, keyStep, orderStep, arRest, arFields, arStep, arcsStep, pathLen, typeLen, pathStep, inOrderStep, inFields, inStep, insStep, formatStep, headStep, endStep, frontStep, backStep, checkOf}
-use Rattle.sheetform.specs.declared.SheetCheck.{SheetCheck}
-use Rattle.sheetform.specs.declared.SheetCheck.the-variants.{Good, Bad}
-use Rattle.sheetlaws.specs.Sheet.{Instance, Arc, Sheet, valuesOf, arcsAt, insAt, decode, sheet, fault}
+use Rattle.sheetparts.specs.Form.{shapeOk, oneEnd, edgeTop, edgeTop2, secondLeast, secondMost, used, valueOk, roomStep, markStep, kindStep, edgeStep, lenStep, nameStep, valueStep, valuesStep, firstLen, secondLen, Key, cmpKey, keyAt, keyStep, orderStep, arRest, arFields, arStep, arcsStep, pathLen, typeLen, pathStep, inOrderStep, inFields, inStep, insStep, formatStep, headStep, endStep, frontStep, backStep, checkOf}
+use Rattle.sheetparts.specs.declared.SheetCheck.{SheetCheck}
+use Rattle.sheetparts.specs.declared.SheetCheck.the-variants.{Good, Bad}
+use Rattle.sheetlaws.specs.Sheet.{Sheet, valuesOf, arcsAt, insAt, decode, sheet}
 use Rattle.sheetlaws.specs.Rule.{least}
 
 -- the bytes of a text, and those that a text of hexadecimal digits gives

@@ -15,8 +15,8 @@ use Rattle.wire.specs.Wire.{Bytes, be16, be64, part, enc16, enc32}
 use Rattle.names.specs.Name.{both}
 use Rattle.names.specs.Order.{sameText}
 use Rattle.names.specs.Laws.{text-exactly}
-use Rattle.sheetform.specs.Form.{Key, firstLen, secondLen, valuesAt, keyAt, checkOf}
-use Rattle.sheetform.specs.declared.SheetCheck.the-variants.{Good}
+use Rattle.sheetparts.specs.Form.{Key, firstLen, secondLen, valuesAt, keyAt, checkOf}
+use Rattle.sheetparts.specs.declared.SheetCheck.the-variants.{Good}
 use Rattle.sheetlaws.specs.Rule.{least}
 use Rattle.sheetlaws.specs.Sheet.{
   Instance,

@@ -9,8 +9,8 @@ use lib.ListN.{length, getElem?, length-map}
 use Rattle.wire.specs.Wire.{Bytes}
 use Rattle.names.specs.Order.{cmp}
 use Rattle.names.specs.Orders.{converse}
-use Rattle.sheetform.specs.Form.{keyAt, pathAt, typeAt, cmpKey, checkOf}
-use Rattle.sheetform.specs.declared.SheetCheck.the-variants.{Good}
+use Rattle.sheetparts.specs.Form.{keyAt, pathAt, typeAt, cmpKey, checkOf}
+use Rattle.sheetparts.specs.declared.SheetCheck.the-variants.{Good}
 use Rattle.sheetlaws.specs.Sheet.{Arc, nth, place, arNext, arcsAt, inAt, inEnd, insAt}
 use Rattle.sheetlaws.specs.Whole.{length-arcsAt}
 use Rattle.sheet.specs.Search.{Rises, beyond, absent}

@@ -14,12 +14,12 @@ use mir.Syntax.{w64}
 use mir.Val.{ofZ}
 use Rattle.classes.specs.Choice.{pick}
 use Rattle.wire.specs.Wire.{Bytes}
-use Rattle.names.specs.Shape.{Name, isPath}
-use Rattle.names.specs.Exactly.{path-exactly, port-exactly}
+use Rattle.nameshape.specs.Shape.{Name, isPath}
+use Rattle.nameshape.specs.Exactly.{path-exactly, port-exactly}
 use Rattle.names.specs.Laws.{PathOrTop, top, below}
 use Rattle.kinds.specs.Kinds.{table, factsOf, isKind, hasSecond}
-use Rattle.sheetform.specs.Form.{shapeOk, oneEnd, secondLeast, valueOk, keyAt, pathAt, checkOf}
-use Rattle.sheetform.specs.declared.SheetCheck.the-variants.{Good}
+use Rattle.sheetparts.specs.Form.{shapeOk, oneEnd, secondLeast, valueOk, keyAt, pathAt, checkOf}
+use Rattle.sheetparts.specs.declared.SheetCheck.the-variants.{Good}
 use Rattle.sheetlaws.specs.Rule.{least, MayStand, empty, upward, downward, value-rule}
 use Rattle.sheetlaws.specs.Sheet.{Arc, From, ArcOk, ArcsOk, FromPath, InOk, InsOk, Fit, valuesOk, nth, place, arNext, arcAt, arcsAt, inAt, inEnd, insAt}
 use Rattle.sheetlaws.specs.Sheet as sheet

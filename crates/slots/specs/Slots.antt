@@ -3,14 +3,14 @@
 use Prim.Native.Nat.{ℕ, zero, suc, _+_, _*_, _/_, _%_}
 use mathlib.Core.Bool.{Bool}
 use mathlib.Core.List.{List, [], _∷_, map}
-use mathlib.Core.Option.{Option, none, some}
+use mathlib.Core.Option.{none, some}
 use lib.Dec.{eqb}
 use lib.IntN.{ℤ}
 use lib.ListN.{getD}
 use mir.Syntax.{w64}
 use mir.Val.{ofZ}
 use Rattle.classes.specs.Choice.{pick, and}
-use Rattle.sheetform.specs.Form as form
+use Rattle.sheetparts.specs.Form as form
 use Rattle.sheetlaws.specs.Rule.{least}
 use Rattle.sheetlaws.specs.Sheet.{Arc, Sheet, encode}
 use Rattle.sheetlaws.specs.Sheet as sheet

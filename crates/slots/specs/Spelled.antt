@@ -13,8 +13,8 @@ use mir.ValLaws.{ofZ-fits}
 use Rattle.classes.specs.Choice.{pick}
 use Rattle.wire.specs.Wire.{Bytes, be64, beBytes}
 use Rattle.wire.specs.Frame.{number-back}
-use Rattle.sheetform.specs.Form.{valuesAt, checkOf}
-use Rattle.sheetform.specs.declared.SheetCheck.the-variants.{Good}
+use Rattle.sheetparts.specs.Form.{valuesAt, checkOf}
+use Rattle.sheetparts.specs.declared.SheetCheck.the-variants.{Good}
 use Rattle.sheetlaws.specs.Sheet.{encArcs, encode, none, WellFormed, place, insAt, arcsAt}
 use Rattle.sheetlaws.specs.Values.{off, All18, all18, off-place}
 use Rattle.sheetlaws.specs.Whole.{length-arcsAt, decode-sound}

@@ -10,9 +10,9 @@ use lib.Dec.{eqb, ltb}
 use lib.ListN.{length}
 use Rattle.classes.specs.Choice.{pick}
 use Rattle.tokens.specs.Stream.{Placed}
-use Rattle.times.specs.Value.{numberOf}
-use Rattle.times.specs.declared.Number.{Number}
-use Rattle.times.specs.declared.Number.the-variants as number
+use Rattle.numbershape.specs.Value.{numberOf}
+use Rattle.numbershape.specs.declared.Number.{Number}
+use Rattle.numbershape.specs.declared.Number.the-variants as number
 use Rattle.grammar.specs.declared.Cell.{Cell}
 use Rattle.grammar.specs.Ll.{lit, non, Took, Row, feed, feeds, none≢some}
 use Rattle.grammar.specs.Machine.{fine, bad, fine-inj, bad≢fine, judges}

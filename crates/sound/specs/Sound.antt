@@ -12,16 +12,16 @@ use lib.IntN.{ℤ, natAbs}
 use lib.ListN.{length, length-append}
 use borrow.Author.Tests.{eqb-true, ltb-true}
 use Rattle.classes.specs.Choice.{pick}
-use Rattle.tokens.specs.declared.Token.{Token}
-use Rattle.tokens.specs.declared.Token.the-variants.{Got, Stop}
-use Rattle.tokens.specs.Tokens.{tokenAt}
+use Rattle.tokenforms.specs.declared.Token.{Token}
+use Rattle.tokenforms.specs.declared.Token.the-variants.{Got, Stop}
+use Rattle.tokenforms.specs.Tokens.{tokenAt}
 use Rattle.tokens.specs.Stream.{Placed, onward, row, stream, onwards}
 use Rattle.words.specs.Words.{keyOf, edgeOf, keywords, edges}
 use Rattle.words.specs.Scales.{find-most}
-use Rattle.times.specs.Value.{numberOf}
+use Rattle.numbershape.specs.Value.{numberOf}
 use Rattle.times.specs.Exact.{time-near}
-use Rattle.times.specs.declared.Number.{Number}
-use Rattle.times.specs.declared.Number.the-variants as number
+use Rattle.numbershape.specs.declared.Number.{Number}
+use Rattle.numbershape.specs.declared.Number.the-variants as number
 use Rattle.grammar.specs.declared.Amount.{Amount}
 use Rattle.grammar.specs.declared.Amount.the-variants.{Absent, Time}
 use Rattle.grammar.specs.declared.Value.{Value}

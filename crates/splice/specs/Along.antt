@@ -13,14 +13,15 @@ use lib.Seq.{drop-append-add, drop-append-le, take-append-le, getD-append-seam}
 use borrow.Author.Tests.{leb-false, eqb-true, lt-leb}
 use Rattle.classes.specs.Choice.{pick}
 use Rattle.classes.specs.Classes.{classOf}
-use Rattle.tokens.specs.declared.Blank.{Blank}
-use Rattle.tokens.specs.declared.Token.{Token}
-use Rattle.tokens.specs.declared.Token.the-variants.{Got, Stop}
-use Rattle.tokens.specs.Scan.{local-at, stops, stopsSt}
-use Rattle.tokens.specs.Machines.{wordStop, wordHalts, wordGoes, textHalts, closeHalts, textGoes, blankStop, blankHalts, blankGoes, outside}
-use Rattle.tokens.specs.Tokens.{stringOf, tokenOf, tokenHere, behind, tokenAt, blankEnd, blankAt, blockEnd}
+use Rattle.scanning.specs.declared.Blank.{Blank}
+use Rattle.tokenforms.specs.declared.Token.{Token}
+use Rattle.tokenforms.specs.declared.Token.the-variants.{Got, Stop}
+use Rattle.scanning.specs.Scan.{local-at, stops, stopsSt}
+use Rattle.scanning.specs.Machines.{wordStop, wordHalts, wordGoes, textHalts, closeHalts, textGoes, blankStop, blankHalts, blankGoes, outside}
+use Rattle.tokenforms.specs.Tokens.{stringOf, tokenOf, tokenHere, behind, tokenAt, blockEnd}
+use Rattle.scanning.specs.Machines.{blankEnd, blankAt}
 use Rattle.tokens.specs.Stream.{Placed, placed, Stream, part, stream, stream-turn, onward, onwards}
-use Rattle.tokens.specs.Local.{Alike, Inside, alike-same}
+use Rattle.tokenforms.specs.Local.{Alike, Inside, alike-same}
 use Rattle.tokens.specs.Shift.{moved, moved-got, moved-stop, token-shift}
 
 -- from the place p on the text's tokens are these, and the last of them ends at q

@@ -1,19 +1,19 @@
 -- The new file of some small texts, computed: where a cell begins and ends.
 -- Assumes nothing.
 use mathlib.Core.Path.{_≡_, refl}
-use mathlib.Core.Bool.{true, false}
+use mathlib.Core.Bool.{false}
 use mathlib.Core.List.{List, _∷_, _++_}
 use Prim.Native.Nat.{ℕ}
 use Rattle.classes.specs.Text.{bytes}
 use Rattle.classes.specs.Classes.{classOf}
-use Rattle.tokens.specs.Scan.{scanLen, scanSt}
-use Rattle.tokens.specs.Machines.{wordStop, wordNext, textStop, closeStop, textNext, blankStop, modeNext, blankGoes}
-use Rattle.tokens.specs.Tokens.{stringOf, tokenOf, behind, tokenAt}
+use Rattle.scanning.specs.Scan.{scanLen, scanSt}
+use Rattle.scanning.specs.Machines.{wordStop, wordNext, textStop, closeStop, textNext, blankStop, modeNext, blankGoes}
+use Rattle.tokenforms.specs.Tokens.{stringOf, tokenOf, behind, tokenAt}
 use Rattle.tokens.specs.Stream.{row, stream}
 use Rattle.words.specs.Words.{keyOf, edgeOf, unitOf, scaleOf, dividerOf}
-use Rattle.names.specs.Shape.{isNameByte, isEscapable, divider, bodyNext, bracketNext, nameNext, nameRun, mayEnd, isPath, isPort}
-use Rattle.times.specs.Shape as shape
-use Rattle.times.specs.Shape.{signs, digitsThen, marked, exponentFits, fractionFits, isNumber}
+use Rattle.nameshape.specs.Shape.{isNameByte, isEscapable, divider, bodyNext, bracketNext, nameNext, nameRun, mayEnd, isPath, isPort}
+use Rattle.numbershape.specs.Shape as shape
+use Rattle.numbershape.specs.Shape.{signs, digitsThen, marked, exponentFits, fractionFits, isNumber}
 use Rattle.grammar.specs.Ll.{feeds}
 use Rattle.grammar.specs.Grammar.{alts, file, oneCell}
 use Rattle.splice.specs.Span.{cellFrom, cellTo, takenOf, newFileOf}

@@ -14,9 +14,9 @@ use borrow.Author.Tests.{leb-true, leb-false, le-leb, lt-leb, eqb-true, eqb-fals
 use Rattle.classes.specs.Choice.{pick}
 use Rattle.tokens.specs.Stream.{Placed, part}
 use Rattle.names.specs.Name.{partOf}
-use Rattle.times.specs.Value.{numberOf}
-use Rattle.times.specs.declared.Number.{Number}
-use Rattle.times.specs.declared.Number.the-variants as number
+use Rattle.numbershape.specs.Value.{numberOf}
+use Rattle.numbershape.specs.declared.Number.{Number}
+use Rattle.numbershape.specs.declared.Number.the-variants as number
 use Rattle.grammar.specs.declared.Entry.{Entry}
 use Rattle.grammar.specs.declared.Cell.{Cell}
 use Rattle.grammar.specs.Machine.{fine, bad, fine-inj, bad≢fine, judges}

@@ -12,9 +12,9 @@ use borrow.Author.Tests.{eqb-true, ne-eqb}
 use Rattle.classes.specs.Choice.{pick}
 use Rattle.tokens.specs.Stream.{Placed}
 use Rattle.words.specs.Words.{keyOf}
-use Rattle.times.specs.Value.{numberOf}
-use Rattle.times.specs.declared.Number.{Number}
-use Rattle.times.specs.declared.Number.the-variants as number
+use Rattle.numbershape.specs.Value.{numberOf}
+use Rattle.numbershape.specs.declared.Number.{Number}
+use Rattle.numbershape.specs.declared.Number.the-variants as number
 use Rattle.grammar.specs.declared.Value.{Value}
 use Rattle.grammar.specs.declared.Entry.{Entry}
 use Rattle.grammar.specs.declared.Cell.{Cell}

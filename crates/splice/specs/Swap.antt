@@ -13,8 +13,8 @@ use lib.Seq.{append-snoc, split-at, length-take-le, drop-drop, getD-drop, take-l
 use borrow.Author.Tests.{eqb-true}
 use Rattle.classes.specs.Choice.{pick, within}
 use Rattle.classes.specs.Classes.{classOf, isWhite, isPlain}
-use Rattle.tokens.specs.declared.Token.the-variants.{Got}
-use Rattle.tokens.specs.Tokens.{tokenAt}
+use Rattle.tokenforms.specs.declared.Token.the-variants.{Got}
+use Rattle.tokenforms.specs.Tokens.{tokenAt}
 use Rattle.tokens.specs.Stream.{Placed, part, stream, onwards}
 use Rattle.splice.specs.Along.{Goes, Bracket, stream-goes, goes-stream, goes-append, goes-split, token-starts, goes-seam, last-seam, part-front, part-behind, moveTok, goes-move, stream-move}
 

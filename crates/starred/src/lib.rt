@@ -5,7 +5,7 @@ ghost use Rattle.bytype.specs.ByType.{Indexed, IndexReady};
 ghost use Rattle.byend.specs.Ends.{EndsReady};
 ghost use Rattle.applying.specs.Bytes.{refusalEvery, writtenEvery, appliedEvery};
 ghost use Rattle.applying.specs.Ready.{Ready};
-use apply::Plan;
+use entryarcs::Plan;
 use grammar::Entry;
 
 // How many instances the index has room for.
@@ -40,7 +40,7 @@ fn refusal_chained(
     let mut k = widen(index[bucket]);
     while k < plan.instances {
         let here = widen(index[4097 + 2 * k]);
-        if apply::is_of(start, here, celltype) {
+        if entryarcs::is_of(start, here, celltype) {
             least = amounts::lesser_of(
                 least,
                 devices::refusal_at(start, text, plan, entry, rows, marks, ends, out, here),
@@ -73,7 +73,7 @@ fn write_chained(
     let mut k = widen(index[bucket]);
     while k < plan.instances {
         let here = widen(index[4097 + 2 * k]);
-        if apply::is_of(start, here, celltype) {
+        if entryarcs::is_of(start, here, celltype) {
             devices::write_at(start, text, plan, entry, rows, marks, ends, out, here);
         }
         k = widen(index[4096 + 2 * k]);

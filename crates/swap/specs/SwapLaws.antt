@@ -14,8 +14,8 @@ use Rattle.classes.specs.Choice.{pick}
 use Rattle.names.specs.Name.{partOf}
 use Rattle.wire.specs.Wire.{Bytes}
 use Rattle.grammar.specs.declared.Cell as read
-use Rattle.sheetform.specs.Form.{checkOf}
-use Rattle.sheetform.specs.declared.SheetCheck.the-variants.{Good}
+use Rattle.sheetparts.specs.Form.{checkOf}
+use Rattle.sheetparts.specs.declared.SheetCheck.the-variants.{Good}
 use Rattle.views.specs.Views.{cellAt}
 use Rattle.history.specs.Events.{holds, final, history}
 use Rattle.history.specs.EventLaws.{none≢some}
@@ -30,10 +30,10 @@ use Rattle.slots.specs.Found.{arcs-length}
 use Rattle.applying.specs.Says.{cellOf, cellsOf}
 use Rattle.applying.specs.Rows.{cell-is}
 use Rattle.applying.specs.Instances.{recordsAt}
-use Rattle.annotate.specs.declared.Whom.{Whom}
-use Rattle.annotate.specs.Whom.{whomOf}
-use Rattle.annotate.specs.Cells.{noCell}
-use Rattle.annotate.specs.CellList.{each-at, before, cellNo, cells-at}
+use Rattle.meaning.specs.declared.Whom.{Whom}
+use Rattle.meaning.specs.Whom.{whomOf}
+use Rattle.meaning.specs.Cells.{noCell}
+use Rattle.meaning.specs.CellList.{each-at, before, cellNo, cells-at}
 use Rattle.patching.specs.Where.{at}
 use Rattle.patching.specs.Group.{groupFault, leastFault}
 use Rattle.patching.specs.GroupLaws.{all-scan}
@@ -43,7 +43,7 @@ use Rattle.arcrun.specs.CellRuns.{cells-length, whom-of}
 use Rattle.swaparcs.specs.declared.Swap.{Swap}
 use Rattle.swaparcs.specs.Swap.{Given, olds, parts, comer, news, touched, LeastIs, writtenUpTo}
 use Rattle.swaparcs.specs.Loops.{Movers, ArcsRan, ArcsWritten}
-use Rattle.swapchunk.specs.Seating.{SwapSeated}
+use Rattle.seating.specs.Seating.{SwapSeated}
 use Rattle.swap.specs.declared.Patched.the-variants as patched
 use Rattle.swap.specs.Swapped.{answerBy, SwapRun}
 

@@ -3,12 +3,12 @@
 // First decide, then write: the least fault of the touched slots and of the incoming cell's own is the answer; without one the touched values are written.
 ghost use mathlib.Core.Path.{_≡_};
 ghost use lib.ListN.{length};
-ghost use Rattle.sheetform.specs.Form.{checkOf};
-ghost use Rattle.sheetform.specs.declared.SheetCheck.the-variants.{Good};
+ghost use Rattle.sheetparts.specs.Form.{checkOf};
+ghost use Rattle.sheetparts.specs.declared.SheetCheck.the-variants.{Good};
 ghost use Rattle.swaparcs.specs.Loops.{SwapReady};
 ghost use Rattle.swap.specs.Swapped.{answerBy, SwapRun};
 ghost use Rattle.swap.specs.declared.Patched.the-variants.{Refused};
-use apply::Plan;
+use entryarcs::Plan;
 use arcrun::Least;
 use swaparcs::Swap;
 
@@ -73,10 +73,10 @@ pub fn swap_cell<'a>(
     let at = swap.outgoing + swap.before;
     let own = ownfaults::own_fault(start, incoming, plan, &places, &marks, cells2, entries2, at);
     let out = views::cell_at(cells, 7 * swap.outgoing);
-    let leaver = annotate::whom_of(start, file, plan, &places, out);
+    let leaver = meaning::whom_of(start, file, plan, &places, out);
     let leavertype = names::part_of(file, out.typefrom, out.typeto);
     let into = views::cell_at(cells2, 0);
-    let comer = annotate::whom_of(start, incoming, plan, &places, into);
+    let comer = meaning::whom_of(start, incoming, plan, &places, into);
     let comertype = names::part_of(incoming, into.typefrom, into.typeto);
     let least = swapseats::swap_seated(
         start,

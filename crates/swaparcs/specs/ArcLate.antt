@@ -13,8 +13,8 @@ use lib.ListN.{length, take, drop}
 use borrow.Author.Tests.{lt-ltb, eq-eqb, ltb-false}
 use Rattle.classes.specs.Choice.{pick, and, or}
 use Rattle.wire.specs.Wire.{Bytes}
-use Rattle.sheetform.specs.Form.{checkOf, valuesAt}
-use Rattle.sheetform.specs.declared.SheetCheck.the-variants.{Good}
+use Rattle.sheetparts.specs.Form.{checkOf, valuesAt}
+use Rattle.sheetparts.specs.declared.SheetCheck.the-variants.{Good}
 use Rattle.sheetlaws.specs.Sheet.{place}
 use Rattle.history.specs.Events.{Event, lenient}
 use Rattle.history.specs.EventLaws.{clash}

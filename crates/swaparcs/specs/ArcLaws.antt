@@ -13,8 +13,8 @@ use lib.Seq.{take-all}
 use borrow.Author.Tests.{eqb-true, eqb-false, ltb-true, ltb-false, lt-ltb, le-ltb}
 use Rattle.classes.specs.Choice.{pick, and, or}
 use Rattle.wire.specs.Wire.{Bytes}
-use Rattle.sheetform.specs.Form.{checkOf, valuesAt}
-use Rattle.sheetform.specs.declared.SheetCheck.the-variants.{Good}
+use Rattle.sheetparts.specs.Form.{checkOf, valuesAt}
+use Rattle.sheetparts.specs.declared.SheetCheck.the-variants.{Good}
 use Rattle.sheetlaws.specs.Sheet.{place}
 use Rattle.history.specs.Events.{Event, holds, final, history, lenient}
 use Rattle.history.specs.EventLaws.{clash, none≢some}
@@ -26,9 +26,9 @@ use Rattle.slots.specs.Slots.{slotNumber, slotAt, valuesOf, spelled, sheetAt}
 use Rattle.slots.specs.Numbers.{slot-at, slot-below, slots-at, slots-length}
 use Rattle.slots.specs.Spelled.{spelled-same}
 use Rattle.applying.specs.Instances.{recordsAt}
-use Rattle.annotate.specs.declared.Whom.{Whom}
-use Rattle.annotate.specs.Cells.{noCell}
-use Rattle.annotate.specs.CellList.{before, before-is, entries-part}
+use Rattle.meaning.specs.declared.Whom.{Whom}
+use Rattle.meaning.specs.Cells.{noCell}
+use Rattle.meaning.specs.CellList.{before, before-is, entries-part}
 use Rattle.patching.specs.Where.{Where, at}
 use Rattle.patching.specs.Group.{groupFault, groupLeft, leastFault}
 use Rattle.patching.specs.GroupLaws.{better-nothing, shifted, left-append, fault-append-none, fault-append-some, left-lenient, fault-lenient, group-none, group-holds}

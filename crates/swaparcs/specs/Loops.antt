@@ -9,19 +9,19 @@ use lib.Dec.{eqb, ltb}
 use lib.ListN.{length, getD}
 use Rattle.classes.specs.Choice.{pick, and, or}
 use Rattle.wire.specs.Wire.{Bytes}
-use Rattle.sheetform.specs.Form.{checkOf}
-use Rattle.sheetform.specs.declared.SheetCheck.the-variants.{Good}
+use Rattle.sheetparts.specs.Form.{checkOf}
+use Rattle.sheetparts.specs.declared.SheetCheck.the-variants.{Good}
 use Rattle.sheetlaws.specs.Sheet.{place}
 use Rattle.history.specs.Scan.{ownFault}
 use Rattle.history.specs.Sheet.{Values, arcSlots}
 use Rattle.slots.specs.Slots.{valuesOf, spelled, sheetAt}
-use Rattle.annotate.specs.declared.Whom.{Whom}
-use Rattle.annotate.specs.Cells.{entriesBefore}
+use Rattle.meaning.specs.declared.Whom.{Whom}
+use Rattle.meaning.specs.Cells.{entriesBefore}
 use Rattle.patching.specs.Group.{groupFault, groupLeft, leastFault}
 use Rattle.patching.specs.Scratch.{Holds18, Flags}
 use Rattle.arcrun.specs.declared.Least.{Least}
 use Rattle.arcrun.specs.declared.Least.the-variants as least
-use Rattle.arcrun.specs.Touch.{entriesTouched}
+use Rattle.meant.specs.Touch.{entriesTouched}
 use Rattle.arcrun.specs.Run.{Of}
 use Rattle.swaparcs.specs.declared.Swap.{Swap}
 use Rattle.swaparcs.specs.Swap.{Given, parts, comer, news, touched, LeastIs, writtenUpTo}

@@ -1,29 +1,26 @@
 -- One cell of a file that was read is swapped for the incoming one: what the program is given, and what its loops say of the new file's history.
 -- Assumes nothing.
-use Prim.Native.Nat.{ℕ, zero, suc, _+_, _*_, _<_, _≤_}
+use Prim.Native.Nat.{ℕ, suc, _<_}
 use mathlib.Core.Path.{_≡_}
 use mathlib.Core.Bool.{Bool, true, false}
-use mathlib.Core.List.{List, [], _∷_, _++_}
+use mathlib.Core.List.{List}
 use mathlib.Core.Option.{Option, none, some}
 use lib.Dec.{ltb}
 use lib.ListN.{getElem?, take, drop}
 use Rattle.classes.specs.Choice.{pick, and}
-use Rattle.wire.specs.Wire.{Bytes}
 use Rattle.grammar.specs.declared.Cell as read
 use Rattle.grammar.specs.Meaning.{Item}
 use Rattle.sound.specs.Sound.{total}
-use Rattle.sheetform.specs.Form.{checkOf}
-use Rattle.sheetform.specs.declared.SheetCheck.the-variants.{Good}
 use Rattle.history.specs.Events.{Event, holds, final, history, affected}
 use Rattle.history.specs.Faults.{Fault}
 use Rattle.history.specs.Sheet.{Slot, Values, Cell, Cut, events}
 use Rattle.history.specs.BySlots.{newEvents}
-use Rattle.slots.specs.Slots.{recordsOf, valuesOf, spelled, sheetAt}
+use Rattle.slots.specs.Slots.{recordsOf, valuesOf, sheetAt}
 use Rattle.applying.specs.Says.{cellOf, cellsOf}
 use Rattle.applying.specs.Rows.{CellIs}
-use Rattle.annotate.specs.Entries.{EntriesAre}
-use Rattle.annotate.specs.Cells.{CellsAre, noCell}
-use Rattle.annotate.specs.CellList.{cellNo}
+use Rattle.meaning.specs.Entries.{EntriesAre}
+use Rattle.meaning.specs.Cells.{CellsAre}
+use Rattle.meaning.specs.CellList.{cellNo}
 use Rattle.patching.specs.Where.{Where, at}
 use Rattle.arcrun.specs.declared.Least.{Least}
 use Rattle.arcrun.specs.declared.Least.the-variants as least

@@ -10,7 +10,7 @@ use lib.Seq.{paste}
 use borrow.Author.Tests.{eq-eqb, ne-eqb}
 use Rattle.wire.specs.Wire.{be64, beBytes}
 use Rattle.patching.specs.Scratch.{backWritten}
-use Rattle.annotate.specs.Cells.{entriesBefore, entries-within}
+use Rattle.meaning.specs.Cells.{entriesBefore, entries-within}
 use Rattle.swaparcs.specs.declared.Swap.{Swap}
 use Rattle.swaparcs.specs.Loops.{SwapReady}
 

@@ -1,168 +1,20 @@
 // A part of the arcs that a swap may touch, up to 4,096, each with its seat in tables: they are marked, their slots are flagged, their values go through the
 // new file together, and are written.
 ghost use mathlib.Core.Path.{_≡_};
-ghost use mathlib.Core.Bool.{false};
 ghost use Prim.Native.Nat.{_≤_};
-ghost use lib.ListN.{length, replicate};
+ghost use lib.ListN.{length};
 ghost use Rattle.sheet.specs.Find.{InstanceSearch, ArcSearch};
 ghost use Rattle.findseat.specs.Findseat.{InOrder};
-ghost use Rattle.seats.specs.Seats.{There, Common};
+ghost use Rattle.nearby.specs.Seats.{There, Common};
 ghost use Rattle.swaparcs.specs.Loops.{SwapReady};
-ghost use Rattle.swapchunk.specs.Seating.{SwapFits, MarksCover, FlagsSeated, StatesLoaded, FrontRan, SeatsThrough, backs};
-use annotate::Whom;
-use apply::Plan;
+ghost use Rattle.seating.specs.Seating.{SwapFits, FlagsSeated, StatesLoaded, FrontRan, SeatsThrough};
+use meaning::Whom;
+use entryarcs::Plan;
 use arcrun::Least;
 use swaparcs::Swap;
 
 // The number of the first cell.
 const FIRST: usize = 0;
-
-// Marks the arcs that the outgoing or the incoming cell means.
-pub fn mark_both<'a>(
-    start: &[u8],
-    file: &'a [u8],
-    incoming: &'a [u8],
-    plan: Plan,
-    swap: Swap,
-    places: &[u32; 4096],
-    marks: &[u32; 4096],
-    cells: &[u64],
-    entries: &[u64],
-    leaver: Whom,
-    leavertype: &[u8],
-    cells2: &[u64],
-    entries2: &[u64],
-    comer: Whom,
-    comertype: &[u8],
-    bits: &mut [u8],
-)
-    requires { ⌜ (SwapFits (now start) plan swap (now places) (now marks) (now cells) (now entries) leaver (now cells2) (now entries2) comer) × (length (now bits) ≡ 131072) ⌝ }
-    ensures { λ _. ⌜ (length (now (bits .exit)) ≡ 131072) × MarksCover (now (start .entry)) (plan .instances) (plan .arcs) (plan .first) (now (file .entry)) (now (incoming .entry))
-        (plan .slash) (now (cells .entry)) (now (entries .entry)) (now (cells2 .entry)) (now (entries2 .entry)) swap
-        leaver (now (leavertype .entry)) comer (now (comertype .entry)) (now (bits .exit)) ⌝ }
-{
-    let leaving = swap.leaving;
-    choosing::mark_entries(
-        start,
-        file,
-        incoming,
-        false,
-        plan,
-        places,
-        marks,
-        entries,
-        swap.before,
-        leaving,
-        leaver,
-        leavertype,
-        bits,
-    );
-    let coming = swap.coming;
-    choosing::mark_entries(
-        start,
-        file,
-        incoming,
-        true,
-        plan,
-        places,
-        marks,
-        entries2,
-        0,
-        coming,
-        comer,
-        comertype,
-        bits,
-    );
-}
-
-// Unsets all flags.
-fn clear(flags: &mut [u8])
-    ensures { λ _. ⌜ now (flags .exit) ≡ replicate (length (now (flags .entry))) 0 ⌝ }
-{
-    let mut k = 0;
-    while k < flags.len() {
-        flags[k] = 0;
-        k += 1;
-    }
-}
-
-// Flags the slots of all seats that the outgoing or the incoming cell supplies.
-fn flag_seats<'a>(
-    start: &[u8],
-    file: &'a [u8],
-    incoming: &'a [u8],
-    plan: Plan,
-    swap: Swap,
-    places: &[u32; 4096],
-    marks: &[u32; 4096],
-    cells: &[u64],
-    entries: &[u64],
-    leaver: Whom,
-    leavertype: &[u8],
-    cells2: &[u64],
-    entries2: &[u64],
-    comer: Whom,
-    comertype: &[u8],
-    arcs: &[usize; 4096],
-    count: usize,
-    flags: &mut [u8],
-)
-    requires { ⌜ (SwapFits (now start) plan swap (now places) (now marks) (now cells) (now entries) leaver (now cells2) (now entries2) comer)
-        × (InOrder (now start) (plan .arcs) (plan .first) (now arcs) count) × (count ≤ 4096) × (length (now flags) ≡ 73728) ⌝ }
-    ensures { λ _. ⌜ (length (now (flags .exit)) ≡ 73728) × FlagsSeated (now (start .entry)) (plan .instances) (plan .arcs) (plan .first) (now (file .entry)) (now (incoming .entry))
-        (plan .slash) (now (cells .entry)) (now (entries .entry)) (now (cells2 .entry)) (now (entries2 .entry)) swap
-        leaver (now (leavertype .entry)) comer (now (comertype .entry)) (now (arcs .entry)) count (now (flags .exit)) ⌝ }
-{
-    clear(flags);
-    touchseats::touch_seats(
-        start,
-        file,
-        incoming,
-        false,
-        plan,
-        places,
-        marks,
-        entries,
-        swap.before,
-        swap.leaving,
-        leaver,
-        leavertype,
-        arcs,
-        count,
-        flags,
-    );
-    touchseats::touch_seats(
-        start,
-        file,
-        incoming,
-        true,
-        plan,
-        places,
-        marks,
-        entries2,
-        0,
-        swap.coming,
-        comer,
-        comertype,
-        arcs,
-        count,
-        flags,
-    );
-}
-
-// Gives each seat the values of its arc on the starting sheet.
-fn load_seats(start: &[u8], arcs: &[usize; 4096], count: usize, states: &mut [u8])
-    requires { ⌜ (There (now start) (now arcs) count) × (count ≤ 4096) × (length (now states) ≡ 589824) ⌝ }
-    ensures { λ _. ⌜ (length (now (states .exit)) ≡ 589824) × StatesLoaded (now (start .entry)) (now (arcs .entry)) count (now (states .exit)) ⌝ }
-{
-    let mut i = 0;
-    while i < count {
-        let mut state = [0u8; 144];
-        seats::load(start, sheet::values_place(start, arcs[i]), &mut state);
-        seats::store(states, 144 * i, &state);
-        i += 1;
-    }
-}
 
 // Takes the seats on through the incoming cell and those behind it.
 fn run_rest<'a>(
@@ -342,7 +194,7 @@ pub fn run_chunk<'a>(
         (plan .slash) (now (cells .entry)) (now (entries .entry)) (now (cells2 .entry)) (now (entries2 .entry)) swap
         (now (arcs .entry)) (now (flags .exit)) count (now (states .exit)) r) ⌝ }
 {
-    flag_seats(
+    seating::flag_seats(
         start,
         file,
         incoming,
@@ -362,8 +214,8 @@ pub fn run_chunk<'a>(
         count,
         flags,
     );
-    load_seats(start, arcs, count, states);
-    let common = seats::common_front(start, arcs, count);
+    seating::load_seats(start, arcs, count, states);
+    let common = nearby::common_front(start, arcs, count);
     run_seated(
         start,
         file,
@@ -382,28 +234,4 @@ pub fn run_chunk<'a>(
         flags,
         states,
     )
-}
-
-// Writes the touched values of the seats to the current sheet.
-pub fn write_seats(
-    start: &[u8],
-    arcs: &[usize; 4096],
-    count: usize,
-    flags: &[u8],
-    states: &[u8],
-    current: &mut [u8],
-)
-    requires { ⌜ (There (now start) (now arcs) count) × (count ≤ 4096) × (length (now flags) ≡ 73728) × (length (now states) ≡ 589824)
-        × (length (now current) ≡ length (now start)) ⌝ }
-    ensures { λ _. ⌜ now (current .exit) ≡ backs (now (start .entry)) (now (arcs .entry)) (now (flags .entry)) (now (states .entry)) (now (current .entry)) count ⌝ }
-{
-    let mut i = 0;
-    while i < count {
-        let mut mask = [0u8; 18];
-        seats::load(flags, 18 * i, &mut mask);
-        let mut state = [0u8; 144];
-        seats::load(states, 144 * i, &mut state);
-        swaparcs::write_back(current, sheet::values_place(start, arcs[i]), &state, &mask);
-        i += 1;
-    }
 }

@@ -1,9 +1,7 @@
 // The records of a reading, in tables of words that the caller lends.
 ghost use mathlib.Core.Path.{_≡_};
-ghost use mathlib.Core.List.{List, [], _∷_, _++_};
-ghost use Prim.Native.Nat.{ℕ, _+_, _*_, _≤_};
+ghost use Prim.Native.Nat.{_+_, _*_, _≤_};
 ghost use lib.ListN.{length, take};
-ghost use Rattle.grammar.specs.Meaning.{Item};
 ghost use Rattle.tables.specs.Layout.{amountWord, valueWords, valuesRow, headRow, cellRow, entryRow};
 ghost use Rattle.tables.specs.Pastes.{put};
 use grammar::Amount;

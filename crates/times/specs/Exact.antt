@@ -11,10 +11,10 @@ use lib.Dec.{eqb, leb, lit<}
 use lib.IntN.{ℤ, pos, natAbs}
 use borrow.Author.Tests.{le-leb, lt-leb, ne-eqb, eqb-true, eqb-false, leb-true, leb-false}
 use Rattle.classes.specs.Choice.{pick}
-use Rattle.times.specs.declared.Number.{Number}
-use Rattle.times.specs.declared.Number.the-variants.{Time, Fine, Beyond, Wrong}
-use Rattle.times.specs.Shape.{isNumber, Written, partsOf}
-use Rattle.times.specs.Value.{limit, withSign, atMost, exact, digits, up, down, numberOf, refusal}
+use Rattle.numbershape.specs.declared.Number.{Number}
+use Rattle.numbershape.specs.declared.Number.the-variants.{Time, Fine, Beyond, Wrong}
+use Rattle.numbershape.specs.Shape.{isNumber, Written, partsOf}
+use Rattle.numbershape.specs.Value.{limit, withSign, atMost, exact, digits, up, down, numberOf, refusal}
 use Rattle.times.specs.Reading.{no, value-wrong}
 use Rattle.times.specs.Grammar.{Lead, bare, Writes, written-number, number-written}
 

@@ -13,10 +13,10 @@ use lib.Seq.{drop-cons}
 use lib.IntN.{pos}
 use borrow.Author.Tests.{lt-leb, eqb-true, eqb-false, leb-true, leb-false}
 use Rattle.classes.specs.Choice.{pick}
-use Rattle.times.specs.declared.Number.the-variants.{Time, Fine, Beyond}
-use Rattle.times.specs.Shape.{digitsOf}
-use Rattle.times.specs.Value.{horner, limit, atMost, exact}
-use Rattle.times.specs.Fast.{zeros, Small, up-exact, down-exact, cut-exact}
+use Rattle.numbershape.specs.declared.Number.the-variants.{Time, Fine, Beyond}
+use Rattle.numbershape.specs.Shape.{digitsOf}
+use Rattle.numbershape.specs.Value.{horner, limit, atMost, exact}
+use Rattle.numbershape.specs.Fast.{zeros, Small, up-exact, down-exact, cut-exact}
 
 -- sixteen zeros are too many for any number but 0
 big : (minus : Bool) (m c : ℕ) → 16 ≤ c → atMost minus (m * 10 ^ c) ≡ pick (eqb m 0) (Time (pos 0)) Beyond

@@ -1,6 +1,6 @@
 -- A number as document 000's rules write it (A.1.7), and that `isNumber` and `partsOf` are those rules.
 -- Assumes nothing.
-use Prim.Native.Nat.{ℕ, zero, suc, _+_, _-_, _≤_, _<_}
+use Prim.Native.Nat.{ℕ, suc, _+_, _-_, _≤_, _<_}
 use mathlib.Core.Path.{_≡_, refl, ap, sym, subst, _∙_}
 use mathlib.Core.Bool.{Bool, true, false}
 use mathlib.Core.List.{List, [], _∷_, _++_, append-nil}
@@ -11,11 +11,11 @@ use lib.Seq.{drop-at, take-at}
 use borrow.Author.Tests.{le-leb, ne-eqb, eqb-true, eqb-false, leb-true}
 use Rattle.classes.specs.Choice.{pick, or, and}
 use Rattle.classes.specs.Classes.{isDigit}
-use Rattle.times.specs.Shape.{first, run, signs, lead, pointed, marked, leading, digitsOf, digitsThen}
-use Rattle.times.specs.Shape.{isEnd, exponentFits, fractionFits, isNumber, Written, fractionOf, belowOf, powerOf, partsOf}
-use Rattle.times.specs.Places.{run-cons}
-use Rattle.times.specs.Fast.{Small}
-use Rattle.times.specs.Reading.{leads, and-true, no, then-fits, ended}
+use Rattle.numbershape.specs.Shape.{first, run, signs, lead, pointed, marked, leading, digitsOf, digitsThen}
+use Rattle.numbershape.specs.Shape.{isEnd, exponentFits, fractionFits, isNumber, Written, fractionOf, belowOf, powerOf, partsOf}
+use Rattle.numbershape.specs.Places.{run-cons}
+use Rattle.numbershape.specs.Fast.{Small}
+use Rattle.times.specs.Reading.{leads, and-true, then-fits, ended}
 
 -- the bytes of digits
 abbrev pub inBytes : List ℕ → List ℕ

@@ -1,9 +1,4 @@
-pub mod Shape
-pub mod Value
-pub mod Places
-pub mod Fast
 pub mod Exponent
-pub mod Steps
 pub mod Reading
 pub mod Grammar
 pub mod Plain

@@ -1,6 +1,6 @@
 -- What the parts found in a word come to: its digits, its exponent, and so its value.
 -- Assumes nothing.
-use Prim.Native.Nat.{ℕ, zero, suc, _+_, _-_, _≤_, min, zero-le}
+use Prim.Native.Nat.{ℕ, suc, _+_, _-_, _≤_, min, zero-le}
 use mathlib.Core.Path.{_≡_, refl, ap, sym, _∙_}
 use mathlib.Core.Bool.{Bool, true, false}
 use mathlib.Core.List.{List, [], _∷_, _++_}
@@ -12,18 +12,18 @@ use lib.Seq.{drop-drop, take-add, take-length}
 use borrow.Author.Tests.{eqb-true, leb-true}
 use Rattle.classes.specs.Choice.{pick, or, and}
 use Rattle.classes.specs.Classes.{isDigit}
-use Rattle.times.specs.declared.Parts.{Parts}
-use Rattle.times.specs.declared.Found.{Found}
-use Rattle.times.specs.declared.Found.the-variants.{Split, Misshapen}
-use Rattle.times.specs.Shape.{Written, first, run, signs, lead, pointed, marked, leading}
-use Rattle.times.specs.Shape.{digitsOf, digitsThen, isEnd, exponentFits, isNumber, fractionOf, powerOf, partsOf}
-use Rattle.times.specs.Value.{horner, exact, numberOf}
-use Rattle.times.specs.Places.{run-cons, run-le, fraction-fits, partsAt, found, isSplit, found-shape}
-use Rattle.times.specs.Fast.{Small}
+use Rattle.numbershape.specs.declared.Parts.{Parts}
+use Rattle.numbershape.specs.declared.Found.{Found}
+use Rattle.numbershape.specs.declared.Found.the-variants.{Split, Misshapen}
+use Rattle.numbershape.specs.Shape.{Written, first, run, signs, lead, pointed, marked, leading}
+use Rattle.numbershape.specs.Shape.{digitsOf, digitsThen, isEnd, exponentFits, isNumber, fractionOf, powerOf, partsOf}
+use Rattle.numbershape.specs.Value.{horner, exact, numberOf}
+use Rattle.numbershape.specs.Places.{run-cons, run-le, fraction-fits, partsAt, found, isSplit, found-shape}
+use Rattle.numbershape.specs.Fast.{Small}
 use Rattle.times.specs.Exponent.{stop-up, stop-down}
-use Rattle.times.specs.declared.Number.{Number}
-use Rattle.times.specs.declared.Number.the-variants.{Wrong}
-use Rattle.times.specs.Steps.{figures}
+use Rattle.numbershape.specs.declared.Number.{Number}
+use Rattle.numbershape.specs.declared.Number.the-variants.{Wrong}
+use Rattle.numbershape.specs.Steps.{figures}
 
 figures-append : (a b : List ℕ) → figures (a ++ b) ≡ figures a ++ figures b
 figures-append [] b = refl

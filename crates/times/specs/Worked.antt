@@ -1,18 +1,17 @@
 -- Document 01's eight worked numbers, and some more, computed by the definition.
 -- Assumes nothing.
-use Prim.Native.Nat.{ℕ, _^_}
+use Prim.Native.Nat.{_^_}
 use Prim.Native.String.{String}
 use mathlib.Core.Path.{_≡_, refl}
 use mathlib.Core.Bool.{true, false}
-use mathlib.Core.List.{List, [], _∷_}
 use lib.IntN.{pos, negsuc}
 use Rattle.classes.specs.Text.{bytes}
-use Rattle.times.specs.declared.Number.{Number}
-use Rattle.times.specs.declared.Number.the-variants.{Time, Fine, Beyond, Wrong}
-use Rattle.times.specs.Shape.{run, signs, digitsThen, marked, exponentFits, fractionFits, isNumber}
-use Rattle.times.specs.Shape.{leading, pointed, fractionOf, belowOf, powerOf, partsOf}
-use Rattle.times.specs.Value.{exact, numberOf}
-use Rattle.times.specs.Places.{found, partsAt}
+use Rattle.numbershape.specs.declared.Number.{Number}
+use Rattle.numbershape.specs.declared.Number.the-variants.{Time, Fine, Beyond, Wrong}
+use Rattle.numbershape.specs.Shape.{run, signs, digitsThen, marked, exponentFits, fractionFits, isNumber}
+use Rattle.numbershape.specs.Shape.{leading, pointed, fractionOf, belowOf, powerOf, partsOf}
+use Rattle.numbershape.specs.Value.{exact, numberOf}
+use Rattle.numbershape.specs.Places.{found, partsAt}
 use Rattle.times.specs.Reading.{number-placed}
 
 -- a word in a signed place, and in another, with no TIMESCALE: 1 ns, 10 ^ 6 femtoseconds

@@ -2,14 +2,14 @@
 -- Assumes nothing.
 use mathlib.Core.Path.{_≡_, refl}
 use mathlib.Core.Bool.{true, false}
-use mathlib.Core.List.{List, [], _∷_, _++_}
+use mathlib.Core.List.{[], _∷_, _++_}
 use lib.ListN.{replicate}
 use Rattle.classes.specs.Text.{bytes}
 use Rattle.classes.specs.Classes.{classOf}
-use Rattle.tokens.specs.Scan.{scanLen, scanSt}
-use Rattle.tokens.specs.Machines.{wordStop, wordNext, textStop, closeStop, textNext, blankStop, modeNext, blankGoes}
-use Rattle.tokens.specs.Tokens.{stringOf, tokenOf, behind, tokenAt}
-use Rattle.tokens.specs.declared.Token.the-variants.{Got, Stop}
+use Rattle.scanning.specs.Scan.{scanLen, scanSt}
+use Rattle.scanning.specs.Machines.{wordStop, wordNext, textStop, closeStop, textNext, blankStop, modeNext, blankGoes}
+use Rattle.tokenforms.specs.Tokens.{stringOf, tokenOf, behind, tokenAt}
+use Rattle.tokenforms.specs.declared.Token.the-variants.{Got, Stop}
 
 pub settled :
     -- 15: an illegal byte ends a word, which is judged before it

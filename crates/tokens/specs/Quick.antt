@@ -7,13 +7,14 @@ use mathlib.Core.List.{List}
 use native.Mathlib.Omega.{arith}
 use lib.Dec.{eqb, ltb}
 use lib.ListN.{length, getD, drop}
-use borrow.Author.Tests.{le-leb, lt-leb, eq-eqb, ne-eqb}
+use borrow.Author.Tests.{le-leb, lt-leb, ne-eqb}
 use Rattle.classes.specs.Choice.{pick}
 use Rattle.classes.specs.Classes.{classOf}
-use Rattle.tokens.specs.Scan.{scanLen, scanSt, stops, stopsSt, goes-on}
-use Rattle.tokens.specs.Machines.{wordStop, wordNext, wordHalts, wordGoes, wordEnd, blankStop, blankHalts, blankGoes, outside}
-use Rattle.tokens.specs.Tokens.{tokenOf, tokenHere, behind, tokenAt, blankEnd, blankAt}
-use Rattle.tokens.specs.declared.Token.the-variants.{Got}
+use Rattle.scanning.specs.Scan.{scanLen, stops, stopsSt, goes-on}
+use Rattle.scanning.specs.Machines.{wordStop, wordNext, wordHalts, wordGoes, wordEnd, blankStop, blankHalts, blankGoes, outside}
+use Rattle.tokenforms.specs.Tokens.{tokenOf, tokenHere, behind, tokenAt}
+use Rattle.scanning.specs.Machines.{blankEnd, blankAt}
+use Rattle.tokenforms.specs.declared.Token.the-variants.{Got}
 use Rattle.tokens.specs.declared.Sign.{Sign}
 
 always : (b : Bool) → pick b true true ≡ true

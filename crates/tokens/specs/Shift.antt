@@ -1,9 +1,9 @@
 -- token-shift: behind a prefix, a text has the tokens that it has alone, with their places moved.
 -- Assumes nothing.
-use Prim.Native.Nat.{ℕ, suc, _+_, _-_, _≤_, _<_}
+use Prim.Native.Nat.{ℕ, suc, _+_, _-_, _≤_}
 use native.Mathlib.Nat.{add-assoc}
 use native.Mathlib.Omega.{arith}
-use mathlib.Core.Path.{_≡_, refl, ap, _∙_, sym}
+use mathlib.Core.Path.{_≡_, refl}
 use mathlib.Core.Bool.{Bool, true, false}
 use mathlib.Core.List.{List, [], _∷_, _++_}
 use lib.Dec.{leb, ltb, eqb}
@@ -12,12 +12,12 @@ use lib.Seq.{drop-append-add, getD-append-add}
 use borrow.Author.Tests.{le-leb, lt-leb, leb-true, leb-false, lt-ltb, le-ltb, ltb-true, ltb-false}
 use Rattle.classes.specs.Choice.{pick}
 use Rattle.classes.specs.Classes.{classOf}
-use Rattle.tokens.specs.Scan.{scanLen, scanSt, scan-cons, scan-consSt}
-use Rattle.tokens.specs.Machines.{modeNext, wordEnd, blankHalts, blankGoes, outside}
-use Rattle.tokens.specs.Tokens.{closing, spoilt, blockEnd, stringOf, stringAt, tokenOf, tokenHere, behind, tokenAt, blankEnd}
-use Rattle.tokens.specs.declared.Blank.{Blank}
-use Rattle.tokens.specs.declared.Token.{Token}
-use Rattle.tokens.specs.declared.Token.the-variants.{Got, Stop}
+use Rattle.scanning.specs.Scan.{scanLen, scanSt, scan-cons, scan-consSt}
+use Rattle.scanning.specs.Machines.{modeNext, wordEnd, blankHalts, blankGoes, outside}
+use Rattle.tokenforms.specs.Tokens.{closing, spoilt, blockEnd, stringOf, stringAt, tokenOf, tokenHere, behind, tokenAt}
+use Rattle.scanning.specs.declared.Blank.{Blank}
+use Rattle.tokenforms.specs.declared.Token.{Token}
+use Rattle.tokenforms.specs.declared.Token.the-variants.{Got, Stop}
 
 -- a token n bytes further on
 unfoldable pub moved : ℕ → Token → Token

@@ -1,22 +1,22 @@
 -- The tokens of a text with their places, and what ends them. Tokens go forward and stay inside the text.
 -- Assumes nothing.
 use Prim.Native.Nat.{ℕ, zero, suc, _+_, _-_, _≤_, _<_}
-use native.Mathlib.Nat.{le-refl, not-suc-le-zero}
+use native.Mathlib.Nat.{not-suc-le-zero}
 use native.Mathlib.Omega.{arith}
-use mathlib.Core.Path.{_≡_, refl, ap, _∙_, sym, subst}
+use mathlib.Core.Path.{_≡_, refl, ap, subst}
 use mathlib.Core.Bool.{Bool, true, false}
 use mathlib.Core.List.{List, [], _∷_}
 use lib.Dec.{leb, ltb, eqb}
-use lib.ListN.{length, take, drop, getD, length-drop}
-use borrow.Author.Tests.{le-leb, leb-false, ltb-true, ltb-false}
+use lib.ListN.{length, take, drop, length-drop}
+use borrow.Author.Tests.{le-leb, leb-false, ltb-true}
 use Rattle.classes.specs.Choice.{pick}
-use Rattle.classes.specs.Classes.{classOf}
-use Rattle.tokens.specs.Scan.{scanLen, scanSt, scan-le, ends, endsSt}
-use Rattle.tokens.specs.Machines.{wordHalts, wordGoes, blankHalts, blankGoes, outside, textHalts, textGoes, closeHalts}
-use Rattle.tokens.specs.Tokens.{stringOf, tokenOf, tokenHere, behind, tokenAt, blockEnd, closing, spoilt, blankEnd, blankAt}
-use Rattle.tokens.specs.declared.Blank.{Blank}
-use Rattle.tokens.specs.declared.Token.{Token}
-use Rattle.tokens.specs.declared.Token.the-variants.{Got, Stop}
+use Rattle.scanning.specs.Scan.{scan-le, ends, endsSt}
+use Rattle.scanning.specs.Machines.{wordHalts, wordGoes, blankHalts, blankGoes, outside}
+use Rattle.tokenforms.specs.Tokens.{stringOf, tokenOf, behind, tokenAt, blockEnd, closing, spoilt}
+use Rattle.scanning.specs.Machines.{blankEnd, blankAt}
+use Rattle.scanning.specs.declared.Blank.{Blank}
+use Rattle.tokenforms.specs.declared.Token.{Token}
+use Rattle.tokenforms.specs.declared.Token.the-variants.{Got, Stop}
 
 -- A token starts at i or behind it, and ends behind its start and within n bytes; what is none has its place within them.
 abbrev pub Good : ℕ → ℕ → Token → Type 0

@@ -14,14 +14,14 @@ use Rattle.classes.specs.Choice.{pick}
 use Rattle.sheetlaws.specs.Sheet.{arNext, place}
 use Rattle.sheet.specs.Search.{nth-next}
 use Rattle.views.specs.Views.{headAt}
-use Rattle.annotate.specs.declared.Whom.{Whom}
-use Rattle.annotate.specs.declared.Whom.the-variants.{One, Nobody}
-use Rattle.annotate.specs.Entries.{rowsAt}
+use Rattle.meaning.specs.declared.Whom.{Whom}
+use Rattle.meaning.specs.declared.Whom.the-variants.{One, Nobody}
+use Rattle.meaning.specs.Entries.{rowsAt}
 use Rattle.patching.specs.Scratch.{touchedFlags, touched-length}
-use Rattle.arcrun.specs.Touch.{meantFor, entriesTouched}
-use Rattle.choosing.specs.Chosen.{chosen, chosen-in, chosen-rises}
-use Rattle.choosing.specs.Parts.{partNo, part-own, flags-other}
-use Rattle.choosing.specs.Choosing.{markedAt, Chose}
+use Rattle.meant.specs.Touch.{meantFor, entriesTouched}
+use Rattle.marking.specs.Chosen.{chosen, chosen-in, chosen-rises}
+use Rattle.marking.specs.Parts.{partNo, part-own, flags-other}
+use Rattle.marking.specs.Choosing.{markedAt, Chose}
 use Rattle.findseat.specs.Findseat.{InOrder, OnlySeat}
 use Rattle.touchseats.specs.Touchseats.{seatTouched, EntryTouched, SeatsTouched}
 

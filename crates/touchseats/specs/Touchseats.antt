@@ -8,11 +8,11 @@ use lib.ListN.{getD}
 use lib.Seq.{paste}
 use Rattle.classes.specs.Choice.{pick}
 use Rattle.views.specs.Views.{headAt}
-use Rattle.annotate.specs.declared.Whom.{Whom}
-use Rattle.annotate.specs.Entries.{rowsAt}
+use Rattle.meaning.specs.declared.Whom.{Whom}
+use Rattle.meaning.specs.Entries.{rowsAt}
 use Rattle.patching.specs.Scratch.{touchedFlags}
-use Rattle.arcrun.specs.Touch.{meantFor, entriesTouched}
-use Rattle.choosing.specs.Parts.{partNo}
+use Rattle.meant.specs.Touch.{meantFor, entriesTouched}
+use Rattle.marking.specs.Parts.{partNo}
 
 -- the flags with those of one seat behind the entry in the row at a place of the table t
 abbrev pub seatTouched : (t : List ℕ) (row : ℕ) (flags : List ℕ) (seat : ℕ) → List ℕ

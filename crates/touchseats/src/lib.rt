@@ -6,12 +6,12 @@ ghost use Rattle.classes.specs.Choice.{pick};
 ghost use Rattle.sheetlaws.specs.Sheet.{inEnd};
 ghost use Rattle.sheet.specs.Find.{ArcsGood, ArcSearch, InstanceSearch};
 ghost use Rattle.views.specs.Views.{headAt};
-ghost use Rattle.annotate.specs.Whom.{InSheet};
-ghost use Rattle.annotate.specs.declared.Whom.the-variants.{One};
+ghost use Rattle.meaning.specs.Whom.{InSheet};
+ghost use Rattle.meaning.specs.declared.Whom.the-variants.{One};
 ghost use Rattle.findseat.specs.Findseat.{InOrder};
 ghost use Rattle.touchseats.specs.Touchseats.{seatTouched, EntryTouched, SeatsTouched};
-use annotate::Whom;
-use apply::Plan;
+use meaning::Whom;
+use entryarcs::Plan;
 
 const DEVICE: u8 = 4;
 
@@ -32,7 +32,7 @@ fn touch_seat(entries: &[u64], row: usize, flags: &mut [u8], seat: usize)
     let entry = views::head_at(entries, row);
     let rows = amounts::expand(entries, row + 10, entry.group == CHECK, entries[row + 9]);
     let at = FLAGS * seat;
-    arcrun::touch_rows(rows, &mut flags[at..at + FLAGS]);
+    touching::touch_rows(rows, &mut flags[at..at + FLAGS]);
 }
 
 // Flags those of all seats whose arc it means: each is asked.
@@ -61,7 +61,7 @@ fn touch_meant<'a>(
     let entry = views::head_at(entries, row);
     let mut i = 0;
     while i < count {
-        if arcrun::is_meant(
+        if meant::is_meant(
             start,
             file,
             incoming,
@@ -117,7 +117,7 @@ fn touch_found<'a>(
         count,
     );
     if seat < count {
-        if arcrun::is_meant(
+        if meant::is_meant(
             start,
             file,
             incoming,

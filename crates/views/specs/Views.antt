@@ -1,6 +1,6 @@
 -- A row of a table, as the record that it stands for (crate tables has the layout).
 -- Assumes nothing.
-use Prim.Native.Nat.{ℕ, _+_, _*_, _%_}
+use Prim.Native.Nat.{ℕ, _+_, _%_}
 use mathlib.Core.List.{List}
 use lib.ListN.{getD}
 use Rattle.grammar.specs.declared.Cell.{Cell}

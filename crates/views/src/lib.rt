@@ -1,6 +1,6 @@
 // Reading back the tables that a reading left: a row as a struct by value.
 ghost use mathlib.Core.Path.{_≡_};
-ghost use Prim.Native.Nat.{ℕ, _+_, _*_, _%_, _≤_};
+ghost use Prim.Native.Nat.{_+_, _%_, _≤_};
 ghost use lib.ListN.{length};
 ghost use Rattle.views.specs.Views.{cellAt, headAt};
 use grammar::Cell;

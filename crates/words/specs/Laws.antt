@@ -7,8 +7,8 @@ use mathlib.Core.Logic.{_↔_, ⊎-elim}
 use Prim.Native.Nat.{ℕ, _≤_}
 use native.Mathlib.Omega.{arith}
 use lib.Dec.{leb, eqb}
-use borrow.Author.Tests.{leb-true, eqb-true, eq-eqb}
-use Rattle.classes.specs.Choice.{pick, and}
+use borrow.Author.Tests.{eqb-true, eq-eqb}
+use Rattle.classes.specs.Choice.{and}
 use Rattle.classes.specs.Text.{bytes}
 use Rattle.words.specs.Words.{Key, same, find, keywords, edges, units, scales, dividers, keyOf, edgeOf, scaleOf, }
 

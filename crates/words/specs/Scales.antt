@@ -19,7 +19,7 @@ use mathlib.Core.List.{
   Memᴰ·append-right,
 }
 use mathlib.Core.Logic.{_⊎_, inl, inr, ⊎-elim}
-use Prim.Native.Nat.{ℕ, zero, suc, _+_, _-_, _≤_}
+use Prim.Native.Nat.{ℕ, _+_, _-_, _≤_}
 use native.Mathlib.Omega.{arith}
 use lib.Dec.{eqb, leb}
 use lib.ListN.{length, take, drop, take-append-drop, length-append}
@@ -27,7 +27,7 @@ use lib.Seq.{take-at, drop-at}
 use borrow.Author.Tests.{leb-true, leb-false, le-leb, eqb-true}
 use Rattle.classes.specs.Choice.{pick, and, or}
 use Rattle.words.specs.Words.{Key, find, multiples, units, scales, withUnit, joined, scaleOf, unitOf, multipleOf}
-use Rattle.words.specs.Laws.{proper, stands, found, held, every, both, scales-proper, units-proper}
+use Rattle.words.specs.Laws.{proper, stands, found, held, every, scales-proper, units-proper}
 
 -- a multiple of one table and a unit of the other stand joined in the joined table
 with-in : (u m : Key) (ms : List Key) → List·Memᴰ m ms → List·Memᴰ (withUnit u m) (map (withUnit u) ms)

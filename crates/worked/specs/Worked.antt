@@ -5,8 +5,8 @@ use Prim.Native.String.{String}
 use mathlib.Core.Path.{_≡_, refl}
 use mathlib.Core.List.{List, [], _∷_, _++_, map, head-eq-of-cons-eq, tail-eq-of-cons-eq}
 use lib.IntN.{pos}
-use Rattle.times.specs.declared.Number.{Number}
-use Rattle.times.specs.declared.Number.the-variants.{Time, Fine, Beyond}
+use Rattle.numbershape.specs.declared.Number.{Number}
+use Rattle.numbershape.specs.declared.Number.the-variants.{Time, Fine, Beyond}
 use Rattle.times.specs.Worked.{inSigned, eight}
 use Rattle.history.specs.Sheet.{Triple, Entry}
 use Rattle.history.specs.Worked.{Case, cases, rowsOf, listing}

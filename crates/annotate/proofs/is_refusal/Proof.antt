@@ -1,7 +1,7 @@
 -- `annotate::is_refusal` meets its contract.
 -- Assumes nothing.
 use borrow.Author.Needs.{needs}
-use Rattle.annotate.specs.Cells.{isRefusal}
+use Rattle.meaning.specs.Cells.{isRefusal}
 use Rattle.annotate.proofs.is_refusal.Statement.{statement}
 use Rattle.annotate.proofs.is_refusal.Tie as tie
 

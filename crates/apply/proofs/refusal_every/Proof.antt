@@ -8,7 +8,7 @@ use denote.Ref.{now}
 use borrow.Author.Needs.{needs}
 use Rattle.sheetlaws.specs.Sheet.{inEnd, nth}
 use Rattle.applying.specs.Bytes.{leastOf, refusalEvery}
-use Rattle.apply.specs.Turns.{least-with, least-without, instance-whole, instance-more, typed, type-is, refusesIn}
+use Rattle.entryarcs.specs.Turns.{least-with, least-without, instance-whole, instance-more, typed, type-is, refusesIn}
 use Rattle.apply.proofs.refusal_every.Statement.{statement}
 use Rattle.apply.proofs.refusal_every.Tie as tie
 

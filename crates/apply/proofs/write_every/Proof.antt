@@ -9,7 +9,7 @@ use denote.Ref.{now}
 use borrow.Author.Needs.{needs}
 use Rattle.sheetlaws.specs.Sheet.{inEnd, nth}
 use Rattle.applying.specs.Bytes.{writtenOf, writtenEvery}
-use Rattle.apply.specs.Turns.{written-with, written-without, instance-whole, instance-more, typed, type-is, writesIn}
+use Rattle.entryarcs.specs.Turns.{written-with, written-without, instance-whole, instance-more, typed, type-is, writesIn}
 use Rattle.apply.proofs.write_every.Statement.{statement}
 use Rattle.apply.proofs.write_every.Tie as tie
 

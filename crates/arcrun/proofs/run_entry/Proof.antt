@@ -4,7 +4,7 @@ use mathlib.Core.Path.{refl, sym, _∙_}
 use native.Mathlib.Omega.{arith}
 use borrow.Author.Needs.{needs}
 use borrow.Author.Tests.{eq-eqb, ne-eqb, not-true, not-false}
-use Rattle.annotate.specs.Entries.{rowsAt}
+use Rattle.meaning.specs.Entries.{rowsAt}
 use Rattle.arcrun.specs.Run.{entryNumber, entryState}
 use Rattle.arcrun.proofs.run_entry.Statement.{statement}
 use Rattle.arcrun.proofs.run_entry.Tie as tie

@@ -1,6 +1,5 @@
 -- `boomcrutch::boomcrutch_check_sheet` meets its contract.
 -- Assumes nothing.
-use Prim.Native.Nat.{_-_}
 use mathlib.Core.Path.{sym, _∙_}
 use borrow.Author.Needs.{needs}
 use Rattle.grammar.specs.Grammar.{check}

@@ -1,6 +1,5 @@
 -- `boomcrutch::boomcrutch_read_cell` meets its contract: the reader's, behind the tests of the divider and the time scale.
 -- Assumes nothing.
-use Prim.Native.Nat.{_-_}
 use mathlib.Core.Path.{refl}
 use lib.ListN.{length}
 use denote.Ref.{now}

@@ -1,6 +1,5 @@
 -- `boomcrutch::boomcrutch_read_file` meets its contract: the reader's.
 -- Assumes nothing.
-use Prim.Native.Nat.{_-_}
 use borrow.Author.Needs.{needs}
 use Rattle.boomcrutch.specs.Exports.{same-left}
 use Rattle.boomcrutch.proofs.boomcrutch_read_file.Statement.{statement}

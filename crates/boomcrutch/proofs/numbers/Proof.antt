@@ -1,6 +1,5 @@
 -- `boomcrutch::numbers` meets its contract.
 -- Assumes nothing.
-use Prim.Native.Nat.{_-_}
 use borrow.Author.Needs.{needs}
 use Rattle.boomcrutch.proofs.numbers.Statement.{statement}
 use Rattle.boomcrutch.proofs.numbers.Tie as tie

@@ -1,6 +1,5 @@
 -- `cells::body_turn` meets its contract: each way through it has its rule.
 -- Assumes nothing.
-use Prim.Native.Nat.{_-_}
 use denote.Ref.{now}
 use borrow.Author.Needs.{needs}
 use Rattle.rules.specs.Rules.{ahead}

@@ -1,13 +1,12 @@
 -- `cells::cell_head` meets its contract: each way through it has its rule.
 -- Assumes nothing.
-use Prim.Native.Nat.{_-_}
 use mathlib.Core.Bool.{true}
 use native.Mathlib.Omega.{arith}
 use denote.Ref.{now}
 use borrow.Author.Needs.{needs}
 use Rattle.grammar.specs.declared.Mark.the-variants as mark
 use Rattle.grammar.specs.declared.ReadName.the-variants as rn
-use Rattle.header.specs.Steps.{KeyRead, TextRead}
+use Rattle.headsteps.specs.Steps.{KeyRead, TextRead}
 use Rattle.cells.specs.declared.Instance.the-variants as ri
 use Rattle.cells.specs.Cells.{PathBehind, head-key-not, head-text-not, head-path-not, head-done}
 use Rattle.cells.proofs.cell_head.Statement.{statement}

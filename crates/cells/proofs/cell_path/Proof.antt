@@ -1,10 +1,9 @@
 -- `cells::cell_path` meets its contract.
 -- Assumes nothing.
-use Prim.Native.Nat.{_-_}
 use denote.Ref.{now}
 use borrow.Author.Needs.{needs}
 use Rattle.grammar.specs.declared.Mark.the-variants as mark
-use Rattle.header.specs.Steps.{KeyRead}
+use Rattle.headsteps.specs.Steps.{KeyRead}
 use Rattle.cells.specs.Cells.{behind-key-not, behind-path}
 use Rattle.cells.proofs.cell_path.Statement.{statement}
 use Rattle.cells.proofs.cell_path.Tie as tie

@@ -1,6 +1,5 @@
 -- `cells::look` meets its contract.
 -- Assumes nothing.
-use Prim.Native.Nat.{_-_}
 use mathlib.Core.Path.{sym, _∙_}
 use mathlib.Core.Bool.{false, true≢false}
 use borrow.Author.Needs.{needs}

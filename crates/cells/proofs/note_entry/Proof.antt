@@ -1,6 +1,5 @@
 -- `cells::note_entry` meets its contract.
 -- Assumes nothing.
-use Prim.Native.Nat.{_-_}
 use mathlib.Core.Path.{_∙_}
 use borrow.Author.Needs.{needs}
 use Rattle.cells.proofs.note_entry.Statement.{statement}

@@ -1,6 +1,5 @@
 -- `cells::open_group` meets its contract.
 -- Assumes nothing.
-use Prim.Native.Nat.{_-_}
 use denote.Ref.{now}
 use borrow.Author.Needs.{needs}
 use Rattle.grammar.specs.declared.Keyword.the-variants as kw

@@ -1,6 +1,5 @@
 -- `cells::open_turn` meets its contract: by the place.
 -- Assumes nothing.
-use Prim.Native.Nat.{_-_}
 use denote.Ref.{now}
 use borrow.Author.Needs.{needs}
 use Rattle.rules.specs.Bodies.{absolute-opens, increment-opens, check-opens}

@@ -1,9 +1,8 @@
 -- `cells::read_entry` meets its contract: by the place.
 -- Assumes nothing.
-use Prim.Native.Nat.{_-_}
 use mathlib.Core.Path.{_∙_, sym}
 use borrow.Author.Needs.{needs}
-use Rattle.cells.specs.Cells.{groupOf, in-group, in-check}
+use Rattle.cells.specs.Cells.{in-group, in-check}
 use Rattle.cells.proofs.read_entry.Statement.{statement}
 use Rattle.cells.proofs.read_entry.Tie as tie
 

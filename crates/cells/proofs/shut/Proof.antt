@@ -1,6 +1,5 @@
 -- `cells::shut` meets its contract: by the place.
 -- Assumes nothing.
-use Prim.Native.Nat.{_-_}
 use borrow.Author.Needs.{needs}
 use Rattle.cells.proofs.Tags.{is-cell, is-delay, is-absolute, is-increment, is-check}
 use Rattle.cells.proofs.shut.Statement.{statement}

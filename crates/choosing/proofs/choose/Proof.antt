@@ -8,9 +8,9 @@ use lib.ListN.{length}
 use denote.Ref.{now}
 use borrow.Author.Needs.{needs}
 use Rattle.sheetlaws.specs.Sheet.{place}
-use Rattle.apply.specs.Turns.{arc-whole, arc-more}
-use Rattle.choosing.specs.Choosing.{ChosenTo}
-use Rattle.choosing.specs.Laws.{set-long, chosen-start, choose-one, choose-none, chosen-full}
+use Rattle.entryarcs.specs.Turns.{arc-whole, arc-more}
+use Rattle.marking.specs.Choosing.{ChosenTo}
+use Rattle.marking.specs.Laws.{set-long, chosen-start, choose-one, choose-none, chosen-full}
 use Rattle.choosing.proofs.choose.Statement.{statement}
 use Rattle.choosing.proofs.choose.Tie as tie
 

@@ -1,13 +1,13 @@
 -- `devices::refusal_chained` meets its contract. Invariant: whether one of the arcs before k is meant, the least refusal of those that are, and k is on the chain of the path's bucket.
 -- Assumes nothing.
-use Rattle.apply.specs.Turns.{some-with, some-without, least-with, least-without, some-same, least-same, hits, refuses, hit-is}
+use Rattle.entryarcs.specs.Turns.{some-with, some-without, least-with, least-without, some-same, least-same, hits, refuses, hit-is}
 use Rattle.applying.specs.Bytes.{someOf, leastOf, deviceRefusal}
 use Rattle.devices.specs.ByPath.{other-end}
 use Rattle.byend.specs.Ends.{endPlace, endBucket}
 use Rattle.bytype.specs.Chains.{OnChain, chain-head, chain-next, skip-head, skip-next}
 use Rattle.bytype.specs.ByType.{bucketOf}
 use Rattle.sheet.specs.Find.{arc-there}
-use Rattle.sheetform.specs.Form.{pathAt}
+use Rattle.sheetparts.specs.Form.{pathAt}
 use denote.Ref.{now}
 use borrow.Author.Needs.{needs}
 use native.Mathlib.Omega.{arith}

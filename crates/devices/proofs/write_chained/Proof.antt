@@ -1,13 +1,13 @@
 -- `devices::write_chained` meets its contract. Invariant: what the arcs before k that are meant make of the sheet is written, and k is on the chain of the path's bucket.
 -- Assumes nothing.
-use Rattle.apply.specs.Turns.{written-with, written-without, written-same, hits, writes, hit-is}
+use Rattle.entryarcs.specs.Turns.{written-with, written-without, written-same, hits, writes, hit-is}
 use Rattle.applying.specs.Bytes.{writtenOf, deviceWritten}
 use Rattle.devices.specs.ByPath.{other-end}
 use Rattle.byend.specs.Ends.{endPlace, endBucket}
 use Rattle.bytype.specs.Chains.{OnChain, chain-head, chain-next, skip-head, skip-next}
 use Rattle.bytype.specs.ByType.{bucketOf}
 use Rattle.sheet.specs.Find.{arc-there}
-use Rattle.sheetform.specs.Form.{pathAt}
+use Rattle.sheetparts.specs.Form.{pathAt}
 use denote.Ref.{now}
 use lib.ListN.{length}
 use borrow.Author.Needs.{needs}

@@ -1,6 +1,5 @@
 -- `entries::check_of` meets its contract: by what a check of the kind carries.
 -- Assumes nothing.
-use Prim.Native.Nat.{_-_}
 use mathlib.Core.Path.{sym, _∙_}
 use borrow.Author.Needs.{needs}
 use Rattle.entries.proofs.check_of.Statement.{statement}

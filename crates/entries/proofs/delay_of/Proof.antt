@@ -1,6 +1,5 @@
 -- `entries::delay_of` meets its contract: by the kind.
 -- Assumes nothing.
-use Prim.Native.Nat.{_-_}
 use mathlib.Core.Path.{_≡_}
 use native.Mathlib.Omega.{arith}
 use Rattle.entries.proofs.delay_of.Statement.{statement}

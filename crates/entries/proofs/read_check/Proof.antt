@@ -1,6 +1,5 @@
 -- `entries::read_check` meets its contract: each way through it has its rule.
 -- Assumes nothing.
-use Prim.Native.Nat.{_-_}
 use mathlib.Core.Path.{refl, sym, _∙_}
 use mathlib.Core.List.{[]}
 use mathlib.Core.Logic.{inl, inr}

@@ -1,6 +1,5 @@
 -- `entries::read_port_delay` meets its contract: each way through it has its rule.
 -- Assumes nothing.
-use Prim.Native.Nat.{_-_}
 use mathlib.Core.Bool.{false}
 use lib.ListN.{take}
 use denote.Ref.{now}

@@ -1,6 +1,5 @@
 -- `entries::these_values` meets its contract.
 -- Assumes nothing.
-use Prim.Native.Nat.{_-_}
 use mathlib.Core.Path.{refl}
 use borrow.Author.Needs.{needs}
 use Rattle.entries.proofs.these_values.Statement.{statement}

@@ -1,6 +1,5 @@
 -- `entries::wrong_entry` meets its contract.
 -- Assumes nothing.
-use Prim.Native.Nat.{_-_}
 use borrow.Author.Needs.{needs}
 use Rattle.entries.proofs.wrong_entry.Statement.{statement}
 use Rattle.entries.proofs.wrong_entry.Tie as tie

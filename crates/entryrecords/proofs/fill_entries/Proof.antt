@@ -63,7 +63,7 @@ use Rattle.entryrecords.proofs.entry_at.Met as callee-thm
 use Rattle.entryrecords.proofs.fill_entries.Key.{name as #entryrecords·fill-entries}
 use Rattle.entryrecords.proofs.fill_entries as f
 use Rattle.entryrecords.proofs.fill_entries.Statement as stated
-use Rattle.records.proofs.Laws.{zs, zs-none, length-zs, zs-more}
+use Rattle.cellrecords.proofs.Laws.{zs, zs-none, length-zs, zs-more}
 use Rattle.entryrecords.proofs.fill_entries.Code as code
 use Rattle.entryrecords.proofs.fill_entries.Code.Mir as mir′
 

@@ -1,11 +1,10 @@
 -- `header::open_file` meets its contract.
 -- Assumes nothing.
-use Prim.Native.Nat.{_-_}
 use denote.Ref.{now}
 use borrow.Author.Needs.{needs}
 use Rattle.grammar.specs.declared.Mark.the-variants as mark
-use Rattle.header.specs.Steps.{KeyRead}
-use Rattle.header.specs.Header.{file-not, version-not, file-done}
+use Rattle.headsteps.specs.Steps.{KeyRead}
+use Rattle.headsteps.specs.Header.{file-not, version-not, file-done}
 use Rattle.header.proofs.open_file.Statement.{statement}
 use Rattle.header.proofs.open_file.Tie as tie
 

@@ -1,14 +1,13 @@
 -- `header::pass_scale` meets its contract: the entry is read, or passed over.
 -- Assumes nothing.
-use Prim.Native.Nat.{_-_}
 use denote.Ref.{now}
 use borrow.Author.Needs.{needs}
 use Rattle.grammar.specs.declared.Hand.the-variants as held
 use Rattle.grammar.specs.declared.Mark.the-variants as mark
 use Rattle.rules.specs.Contracts.{InHand}
 use Rattle.rules.specs.Rules.{ahead}
-use Rattle.header.specs.Steps.{ScaleRead}
-use Rattle.header.specs.Header.{scale-over, scale-there-not, scale-there, scale-refused}
+use Rattle.headsteps.specs.Steps.{ScaleRead}
+use Rattle.headsteps.specs.Header.{scale-over, scale-there-not, scale-there, scale-refused}
 use Rattle.header.proofs.pass_scale.Statement.{statement}
 use Rattle.header.proofs.pass_scale.Tie as tie
 

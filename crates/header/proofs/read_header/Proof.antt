@@ -1,11 +1,10 @@
 -- `header::read_header` meets its contract: step by step.
 -- Assumes nothing.
-use Prim.Native.Nat.{_-_}
 use mathlib.Core.Path.{refl}
 use mathlib.Core.List.{[]}
 use denote.Ref.{now}
 use borrow.Author.Needs.{needs}
-use Rattle.header.specs.Header.{header-read}
+use Rattle.headsteps.specs.Header.{header-read}
 use Rattle.header.proofs.read_header.Statement.{statement}
 use Rattle.header.proofs.read_header.Tie as tie
 

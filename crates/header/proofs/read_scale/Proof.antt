@@ -1,13 +1,12 @@
 -- `header::read_scale` meets its contract: each way through it has its rule.
 -- Assumes nothing.
-use Prim.Native.Nat.{_-_}
 use mathlib.Core.Path.{sym, _∙_}
 use native.Mathlib.Omega.{arith}
 use denote.Ref.{now}
 use borrow.Author.Needs.{needs}
 use Rattle.tokens.specs.Stream.{onwards, part}
 use Rattle.rules.specs.Rules.{ahead}
-use Rattle.header.specs.Header.{scale-most, scale-gap, scale-stops, scale-kind, scale-not, scale-joined, scale-split}
+use Rattle.headsteps.specs.Header.{scale-most, scale-gap, scale-stops, scale-kind, scale-not, scale-joined, scale-split}
 use Rattle.header.proofs.read_scale.Statement.{statement}
 use Rattle.header.proofs.read_scale.Tie as tie
 

@@ -1,12 +1,11 @@
 -- `header::read_unit` meets its contract: each way through it has its rule.
 -- Assumes nothing.
-use Prim.Native.Nat.{_-_}
 use mathlib.Core.Path.{sym, _∙_}
 use native.Mathlib.Omega.{arith}
 use denote.Ref.{now}
 use borrow.Author.Needs.{needs}
 use Rattle.tokens.specs.Stream.{onwards, part}
-use Rattle.header.specs.Header.{unit-most, unit-stops, unit-kind, unit-not, unit-done}
+use Rattle.headsteps.specs.Header.{unit-most, unit-stops, unit-kind, unit-not, unit-done}
 use Rattle.header.proofs.read_unit.Statement.{statement}
 use Rattle.header.proofs.read_unit.Tie as tie
 

@@ -8,10 +8,11 @@ use lib.ListN.{length, drop, length-append}
 use Rattle.grammar.specs.Machine.{Res, fine, bad}
 use Rattle.grammar.specs.Reading.{At}
 use Rattle.tables.specs.Layout.{cellRows, entryRows, length-cells, length-entries}
-use Rattle.reader.specs.declared.Answer.{Answer}
-use Rattle.reader.specs.declared.Answer.the-variants.{Read, Refused}
+use Rattle.readcells.specs.declared.Answer.{Answer}
+use Rattle.readcells.specs.declared.Answer.the-variants.{Read, Refused}
 use Rattle.reader.specs.declared.FileRead.{FileRead}
-use Rattle.reader.specs.Files.{FileIs, answerOf, cellsLeft, entriesLeft}
+use Rattle.tables.specs.Left.{cellsLeft, entriesLeft}
+use Rattle.reader.specs.Files.{FileIs, answerOf}
 use borrow.Author.Needs.{needs}
 use Rattle.listing.proofs.list.Statement.{statement}
 use Rattle.listing.proofs.list.Tie as tie

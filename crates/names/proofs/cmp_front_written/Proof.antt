@@ -2,7 +2,6 @@
 -- Assumes nothing.
 use Rattle.names.specs.Name.{dotted}
 use borrow.Author.Needs.{needs}
-use Prim.Native.Nat.{_-_}
 use Rattle.names.proofs.cmp_front_written.Statement.{statement}
 use Rattle.names.proofs.cmp_front_written.Tie as tie
 

@@ -6,7 +6,6 @@ use borrow.Author.Tests.{eq-eqb, ne-eqb, lt-ltb, le-ltb}
 use denote.Ref.{now}
 use borrow.Author.Needs.{needs}
 use mathlib.Core.Path.{sym, _∙_}
-use Prim.Native.Nat.{_-_}
 use Rattle.names.proofs.cmp_written.Statement.{statement}
 use Rattle.names.proofs.cmp_written.Tie as tie
 

@@ -1,7 +1,6 @@
 -- `names::name_of` meets its contract.
 -- Assumes nothing.
 use Rattle.names.specs.Name.{nameOf}
-use Prim.Native.Nat.{_-_}
 use borrow.Author.Needs.{needs}
 use Rattle.names.proofs.name_of.Statement.{statement}
 use Rattle.names.proofs.name_of.Tie as tie

@@ -2,7 +2,6 @@
 -- Assumes nothing.
 use Rattle.names.specs.Name.{partOf}
 use borrow.Author.Tests.{le-leb, lt-leb}
-use Prim.Native.Nat.{_-_}
 use borrow.Author.Needs.{needs}
 use Rattle.names.proofs.part_of.Statement.{statement}
 use Rattle.names.proofs.part_of.Tie as tie

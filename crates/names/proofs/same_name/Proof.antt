@@ -1,7 +1,6 @@
 -- `names::same_name` meets its contract.
 -- Assumes nothing.
 use Rattle.names.specs.Name.{sameName}
-use Prim.Native.Nat.{_-_}
 use borrow.Author.Needs.{needs}
 use Rattle.names.proofs.same_name.Statement.{statement}
 use Rattle.names.proofs.same_name.Tie as tie

@@ -1,7 +1,6 @@
 -- `names::same_text` meets its contract.
 -- Assumes nothing.
 use Rattle.names.specs.Order.{sameText}
-use Prim.Native.Nat.{_-_}
 use borrow.Author.Needs.{needs}
 use Rattle.names.proofs.same_text.Statement.{statement}
 use Rattle.names.proofs.same_text.Tie as tie

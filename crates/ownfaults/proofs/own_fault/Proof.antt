@@ -4,8 +4,8 @@ use mathlib.Core.Path.{sym, _∙_}
 use denote.Ref.{now}
 use borrow.Author.Needs.{needs}
 use Rattle.views.specs.Views.{cellAt}
-use Rattle.annotate.specs.declared.Whom.the-variants.{One, Every}
-use Rattle.annotate.specs.Whom.{one-somebody, every-somebody}
+use Rattle.meaning.specs.declared.Whom.the-variants.{One, Every}
+use Rattle.meaning.specs.Whom.{one-somebody, every-somebody}
 use Rattle.ownfaults.specs.OwnLaws.{own-refused, own-listed}
 use Rattle.ownfaults.proofs.own_fault.Statement.{statement}
 use Rattle.ownfaults.proofs.own_fault.Tie as tie

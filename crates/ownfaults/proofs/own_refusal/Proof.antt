@@ -2,7 +2,7 @@
 -- Assumes nothing.
 use mathlib.Core.Path.{refl}
 use borrow.Author.Needs.{needs}
-use Rattle.annotate.specs.Entries.{rowsAt, refusalFor}
+use Rattle.meaning.specs.Entries.{rowsAt, refusalFor}
 use Rattle.ownfaults.proofs.own_refusal.Statement.{statement}
 use Rattle.ownfaults.proofs.own_refusal.Tie as tie
 

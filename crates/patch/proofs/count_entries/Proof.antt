@@ -6,7 +6,7 @@ use native.Mathlib.Omega.{arith}
 use native.Mathlib.Numerals.{add-one}
 use lib.ListN.{getD}
 use denote.Ref.{now}
-use Rattle.annotate.specs.Cells.{entriesBefore, entries-within}
+use Rattle.meaning.specs.Cells.{entriesBefore, entries-within}
 use Rattle.patch.proofs.count_entries.Statement.{statement}
 use Rattle.patch.proofs.count_entries.Tie as tie
 

@@ -6,7 +6,7 @@ use native.Mathlib.Omega.{arith}
 use lib.ListN.{getD}
 use denote.Ref.{now}
 use borrow.Author.Needs.{needs}
-use Rattle.annotate.specs.Cells.{entries-within}
+use Rattle.meaning.specs.Cells.{entries-within}
 use Rattle.patch.specs.PatchLaws.{cell-unread, none-come, cell-ready, cell-read, one-comes}
 use Rattle.patch.proofs.patch_cell.Statement.{statement}
 use Rattle.patch.proofs.patch_cell.Tie as tie

@@ -43,31 +43,31 @@ use denote.Triple.Walked.{says, Stays, stay-dropped, gave-slice, walkOf, goes-dr
 use denote.Exit.{yes}
 use Rattle.grammar.specs.declared.Cell.{Cell}
 use Rattle.grammar.proofs.Cell as T
-use Rattle.records.specs.Records.{recordsOf}
-use Rattle.records.specs.Reading.{roomFor}
-use Rattle.records.proofs.Again.{LentAgain, lends-again, comes-back, shares-rest}
+use Rattle.cellrecords.specs.Records.{recordsOf}
+use Rattle.readrecords.specs.Reading.{roomFor}
+use Rattle.cellrecords.proofs.Again.{LentAgain, lends-again, comes-back, shares-rest}
 use Rattle.patch.specs.declared.Counted.{Counted}
 use Rattle.patch.specs.Meaning.{Course, course}
 use Rattle.patch.proofs.Counted as F
 use Rattle.patch.proofs.Counted.Laws as F′
-use Rattle.patchrecords.specs.Patching.{PatchWithin, PatchedRecords}
-use Rattle.patchrecords.specs.PatchingLaws.{patched-records, file-rows, cell-rows}
-use Rattle.patchrecords.proofs.patch_within as within
-use Rattle.patchrecords.proofs.patch_within.Symbol as within-def
-use Rattle.patchrecords.proofs.patch_within.Symbol.{name as #patchrecords·patch-within}
-use Rattle.patchrecords.proofs.patch_within.Met as within-thm
-use Rattle.patchrecords.proofs.file_cells as counted
-use Rattle.patchrecords.proofs.file_cells.Symbol as counted-def
-use Rattle.patchrecords.proofs.file_cells.Symbol.{name as #patchrecords·file-cells}
-use Rattle.patchrecords.proofs.file_cells.Met as counted-thm
-use Rattle.patchrecords.proofs.incoming_cells as come
-use Rattle.patchrecords.proofs.incoming_cells.Symbol as come-def
-use Rattle.patchrecords.proofs.incoming_cells.Symbol.{name as #patchrecords·incoming-cells}
-use Rattle.patchrecords.proofs.incoming_cells.Met as come-thm
-use Rattle.records.proofs.fill_records as filled
-use Rattle.records.proofs.fill_records.Symbol as filled-def
-use Rattle.records.proofs.fill_records.Symbol.{name as #records·fill-records}
-use Rattle.records.proofs.fill_records.Met as filled-thm
+use Rattle.patchwithin.specs.Patching.{PatchWithin, PatchedRecords}
+use Rattle.patchwithin.specs.PatchingLaws.{patched-records, file-rows, cell-rows}
+use Rattle.patchwithin.proofs.patch_within as within
+use Rattle.patchwithin.proofs.patch_within.Symbol as within-def
+use Rattle.patchwithin.proofs.patch_within.Symbol.{name as #patchrecords·patch-within}
+use Rattle.patchwithin.proofs.patch_within.Met as within-thm
+use Rattle.patchwithin.proofs.file_cells as counted
+use Rattle.patchwithin.proofs.file_cells.Symbol as counted-def
+use Rattle.patchwithin.proofs.file_cells.Symbol.{name as #patchrecords·file-cells}
+use Rattle.patchwithin.proofs.file_cells.Met as counted-thm
+use Rattle.patchwithin.proofs.incoming_cells as come
+use Rattle.patchwithin.proofs.incoming_cells.Symbol as come-def
+use Rattle.patchwithin.proofs.incoming_cells.Symbol.{name as #patchrecords·incoming-cells}
+use Rattle.patchwithin.proofs.incoming_cells.Met as come-thm
+use Rattle.cellrecords.proofs.fill_records as filled
+use Rattle.cellrecords.proofs.fill_records.Symbol as filled-def
+use Rattle.cellrecords.proofs.fill_records.Symbol.{name as #records·fill-records}
+use Rattle.cellrecords.proofs.fill_records.Met as filled-thm
 use Rattle.patchrecords.proofs.patch_records.Key.{name as #patchrecords·patch-records}
 use Rattle.patchrecords.proofs.patch_records as f
 use Rattle.patchrecords.proofs.patch_records.Statement as stated
@@ -381,7 +381,7 @@ patch-records-spec 𝓤 H 𝓜 𝓖 𝓡 =
     entered 𝓤 H (tripleOf 𝓤 H (𝓖 .A) f.signature (f.spec 𝓤 H (𝓖 .A) (𝓜 .mem) (𝓡 .run)))
     (tables 𝓤 H 𝓜 𝓡 code.env .C) (tables 𝓤 H 𝓜 𝓡 code.env .Λ) #patchrecords·patch-records code.function (code.unfolded 𝓤 H 𝓜 𝓡)
     (meets 𝓤 H (𝓖 .A) (givenOf 𝓤 H 𝓜 𝓖) (𝓜 .mem) (𝓡 .run) (tablesOf 𝓤 H 𝓜 (tables 𝓤 H 𝓜 𝓡 code.env))
-    (cited 𝓤 H (Within 𝓤 H (𝓖 .A) (𝓜 .mem) (𝓡 .run)) 𝓜 𝓡 code.env #patchrecords·patch-within within-def.routine code.calls-patchrecords·patch-within (within-thm.met 𝓤 H 𝓜 𝓖 𝓡))
-    (cited 𝓤 H (FileCells 𝓤 H (𝓖 .A) (𝓜 .mem) (𝓡 .run)) 𝓜 𝓡 code.env #patchrecords·file-cells counted-def.routine code.calls-patchrecords·file-cells (counted-thm.met 𝓤 H 𝓜 𝓖 𝓡))
-    (cited 𝓤 H (IncomingCells 𝓤 H (𝓖 .A) (𝓜 .mem) (𝓡 .run)) 𝓜 𝓡 code.env #patchrecords·incoming-cells come-def.routine code.calls-patchrecords·incoming-cells (come-thm.met 𝓤 H 𝓜 𝓖 𝓡))
-    (cited 𝓤 H (Filled 𝓤 H (𝓖 .A) (𝓜 .mem) (𝓡 .run)) 𝓜 𝓡 code.env #records·fill-records filled-def.routine code.calls-records·fill-records (filled-thm.met 𝓤 H 𝓜 𝓖 𝓡)))
+    (cited 𝓤 H (Within 𝓤 H (𝓖 .A) (𝓜 .mem) (𝓡 .run)) 𝓜 𝓡 code.env #patchrecords·patch-within within-def.routine code.calls-patchwithin·patch-within (within-thm.met 𝓤 H 𝓜 𝓖 𝓡))
+    (cited 𝓤 H (FileCells 𝓤 H (𝓖 .A) (𝓜 .mem) (𝓡 .run)) 𝓜 𝓡 code.env #patchrecords·file-cells counted-def.routine code.calls-patchwithin·file-cells (counted-thm.met 𝓤 H 𝓜 𝓖 𝓡))
+    (cited 𝓤 H (IncomingCells 𝓤 H (𝓖 .A) (𝓜 .mem) (𝓡 .run)) 𝓜 𝓡 code.env #patchrecords·incoming-cells come-def.routine code.calls-patchwithin·incoming-cells (come-thm.met 𝓤 H 𝓜 𝓖 𝓡))
+    (cited 𝓤 H (Filled 𝓤 H (𝓖 .A) (𝓜 .mem) (𝓡 .run)) 𝓜 𝓡 code.env #records·fill-records filled-def.routine code.calls-cellrecords·fill-records (filled-thm.met 𝓤 H 𝓜 𝓖 𝓡)))

@@ -1,6 +1,5 @@
 -- `reader::one_cell` meets its contract: the bracket, the word CELL, the rest of the cell, and the text's end.
 -- Assumes nothing.
-use Prim.Native.Nat.{_-_}
 use mathlib.Core.Path.{refl}
 use mathlib.Core.Bool.{false}
 use mathlib.Core.List.{[], _∷_}
@@ -8,7 +7,7 @@ use native.Mathlib.Omega.{arith}
 use denote.Ref.{now}
 use borrow.Author.Needs.{needs}
 use Rattle.tokens.specs.Stream.{onwards}
-use Rattle.header.specs.Steps.{Takes}
+use Rattle.headsteps.specs.Steps.{Takes}
 use Rattle.grammar.specs.declared.Hand.the-variants as hand
 use Rattle.grammar.specs.Grammar.{⟨}
 use Rattle.reader.specs.One.{one-stops, one-wrong, one-full, one-tail-not, one-done}

@@ -1,6 +1,5 @@
 -- `reader::read_all` meets its contract: the header, then the cells.
 -- Assumes nothing.
-use Prim.Native.Nat.{_-_}
 use denote.Ref.{now}
 use borrow.Author.Needs.{needs}
 use Rattle.reader.specs.Files.{all-read}

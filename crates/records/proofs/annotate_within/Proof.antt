@@ -10,9 +10,6 @@ use borrow.Author.Needs.{needs}
 use Rattle.records.specs.AnnotatingLaws.{counted-part, counted-whole}
 use Rattle.records.proofs.annotate_within.Statement.{statement}
 use Rattle.records.proofs.annotate_within.Tie as tie
-use Rattle.records.proofs.annotate_within.Reads as reads
-use Rattle.records.proofs.annotate_within.Lts as lts
-use Rattle.annotate.proofs.annotate_counted.Reads as annotate-counted-reads
 
 mul-annotate-counted : tie.Need-mul-annotate-counted
 mul-annotate-counted c = search needs

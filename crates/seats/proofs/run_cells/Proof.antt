@@ -7,8 +7,8 @@ use native.Mathlib.Numerals.{add-one}
 use lib.ListN.{length, getD}
 use denote.Ref.{now}
 use borrow.Author.Needs.{needs}
-use Rattle.annotate.specs.Cells.{entriesBefore, entries-within}
-use Rattle.seats.specs.Laws.{AllSoFar, all-none, all-more, all-stop, all-end}
+use Rattle.meaning.specs.Cells.{entriesBefore, entries-within}
+use Rattle.nearby.specs.Laws.{AllSoFar, all-none, all-more, all-stop, all-end}
 use Rattle.seats.proofs.run_cells.Statement.{statement}
 use Rattle.seats.proofs.run_cells.Tie as tie
 

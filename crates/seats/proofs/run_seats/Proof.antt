@@ -9,7 +9,7 @@ use Rattle.classes.specs.Choice.{pick}
 use Rattle.names.specs.Name.{nameOf}
 use Rattle.views.specs.Views.{cellAt}
 use Rattle.findseat.specs.Laws.{order-there}
-use Rattle.seats.specs.Laws.{seats-ran, seats-skipped, far-none}
+use Rattle.nearby.specs.Laws.{seats-ran, seats-skipped, far-none}
 use Rattle.seats.proofs.run_seats.Statement.{statement}
 use Rattle.seats.proofs.run_seats.Tie as tie
 

@@ -1,6 +1,6 @@
 -- `sheet::arc_edge` meets its contract.
 -- Assumes nothing.
-use Rattle.sheetform.specs.Form.{keyAt}
+use Rattle.sheetparts.specs.Form.{keyAt}
 use mathlib.Core.Path.{refl}
 use borrow.Author.Needs.{needs}
 use Rattle.sheet.proofs.arc_edge.Statement.{statement}

@@ -1,6 +1,6 @@
 -- `sheet::arc_edge2` meets its contract.
 -- Assumes nothing.
-use Rattle.sheetform.specs.Form.{keyAt}
+use Rattle.sheetparts.specs.Form.{keyAt}
 use borrow.Author.Needs.{needs}
 use Rattle.sheet.proofs.arc_edge2.Statement.{statement}
 use Rattle.sheet.proofs.arc_edge2.Tie as tie

@@ -2,13 +2,13 @@
 -- Assumes nothing.
 use Rattle.sheet.specs.Find.{wanted, findArc, ArcsGood, arcs-at, arcs-rise}
 use Rattle.sheet.specs.Search.{mark-fits, from-mark, no-marks}
-use Rattle.sheetform.specs.Form.{cmpKey, keyAt}
+use Rattle.sheetparts.specs.Form.{cmpKey, keyAt}
 use Rattle.sheet.specs.Search.{strideOf}
 use Rattle.sheetlaws.specs.Sheet.{arNext}
 use denote.Ref.{now}
 use native.Mathlib.Omega.{arith}
 use mathlib.Core.Path.{sym, _∙_}
-use Prim.Native.Nat.{_-_, _*_}
+use Prim.Native.Nat.{_*_}
 use borrow.Author.Needs.{needs}
 use Rattle.sheet.proofs.find_arc.Statement.{statement}
 use Rattle.sheet.proofs.find_arc.Tie as tie

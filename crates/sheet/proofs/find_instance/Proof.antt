@@ -4,13 +4,13 @@ use Rattle.sheet.specs.Find.{findInstance, InsGood, ins-at, ins-rise}
 use Rattle.sheet.specs.Search.{mark-fits, from-mark, no-marks}
 use Rattle.names.specs.Name.{canon}
 use Rattle.names.specs.Order.{cmp}
-use Rattle.sheetform.specs.Form.{pathAt}
+use Rattle.sheetparts.specs.Form.{pathAt}
 use Rattle.sheet.specs.Search.{strideOf}
 use Rattle.sheetlaws.specs.Sheet.{inEnd}
 use denote.Ref.{now}
 use native.Mathlib.Omega.{arith}
 use mathlib.Core.Path.{sym, _∙_}
-use Prim.Native.Nat.{_-_, _*_}
+use Prim.Native.Nat.{_*_}
 use borrow.Author.Needs.{needs}
 use Rattle.sheet.proofs.find_instance.Statement.{statement}
 use Rattle.sheet.proofs.find_instance.Tie as tie

@@ -1,7 +1,7 @@
 -- `sheet::key_vs` meets its contract.
 -- Assumes nothing.
 use borrow.Author.Tests.{eq-eqb, ne-eqb}
-use Rattle.sheetform.specs.Form.{cmpKey}
+use Rattle.sheetparts.specs.Form.{cmpKey}
 use Rattle.sheet.specs.Find.{wanted}
 use borrow.Author.Needs.{needs}
 use Rattle.sheet.proofs.key_vs.Statement.{statement}

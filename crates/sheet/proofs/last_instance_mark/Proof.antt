@@ -3,7 +3,7 @@
 use Rattle.sheet.specs.Search.{NotBeyond, not-beyond}
 use Rattle.names.specs.Name.{canon}
 use Rattle.names.specs.Order.{cmp}
-use Rattle.sheetform.specs.Form.{pathAt}
+use Rattle.sheetparts.specs.Form.{pathAt}
 use Rattle.sheet.specs.Search.{strideOf}
 use Rattle.sheetlaws.specs.Sheet.{inEnd}
 use denote.Ref.{now}

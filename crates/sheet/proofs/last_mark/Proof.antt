@@ -2,7 +2,7 @@
 -- Assumes nothing.
 use Rattle.sheet.specs.Find.{wanted}
 use Rattle.sheet.specs.Search.{NotBeyond, not-beyond}
-use Rattle.sheetform.specs.Form.{cmpKey, keyAt}
+use Rattle.sheetparts.specs.Form.{cmpKey, keyAt}
 use Rattle.sheet.specs.Search.{strideOf}
 use Rattle.sheetlaws.specs.Sheet.{arNext}
 use denote.Ref.{now}

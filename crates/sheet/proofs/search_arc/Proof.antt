@@ -2,7 +2,7 @@
 -- Assumes nothing.
 use Rattle.sheet.specs.Find.{wanted, findArc, ArcsGood, arcs-tail, arcs-rise}
 use Rattle.sheet.specs.Search.{search-more, search-end, beyond}
-use Rattle.sheetform.specs.Form.{cmpKey, keyAt}
+use Rattle.sheetparts.specs.Form.{cmpKey, keyAt}
 use Rattle.sheetlaws.specs.Sheet.{arNext}
 use borrow.Author.Tests.{eq-eqb, ne-eqb}
 use denote.Ref.{now}

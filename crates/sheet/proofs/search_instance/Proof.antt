@@ -4,7 +4,7 @@ use Rattle.sheet.specs.Find.{findInstance, InsGood, ins-tail, ins-rise}
 use Rattle.sheet.specs.Search.{search-more, search-end, beyond}
 use Rattle.names.specs.Name.{canon}
 use Rattle.names.specs.Order.{cmp}
-use Rattle.sheetform.specs.Form.{pathAt}
+use Rattle.sheetparts.specs.Form.{pathAt}
 use Rattle.sheetlaws.specs.Sheet.{inEnd}
 use borrow.Author.Tests.{eq-eqb, ne-eqb}
 use denote.Ref.{now}

@@ -1,7 +1,7 @@
 -- `sheet::second_end` meets its contract.
 -- Assumes nothing.
 use native.Mathlib.Nat.{add-sub-cancel-left}
-use Rattle.sheetform.specs.Form.{keyAt}
+use Rattle.sheetparts.specs.Form.{keyAt}
 use borrow.Author.Needs.{needs}
 use Rattle.sheet.proofs.second_end.Statement.{statement}
 use Rattle.sheet.proofs.second_end.Tie as tie

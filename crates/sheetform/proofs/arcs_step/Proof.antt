@@ -6,10 +6,10 @@ use native.Mathlib.Omega.{arith}
 use denote.Ref.{now}
 use borrow.Author.Needs.{needs}
 use lib.ListN.{length}
-use Rattle.sheetform.specs.Form.{arcsStep, valuesAt}
-use Rattle.sheetform.specs.Passed.{stuck, ar-next}
-use Rattle.sheetform.specs.Loops.{arc-more, arcs-end}
-use Rattle.sheetform.proofs.Tags.{not-next}
+use Rattle.sheetparts.specs.Form.{arcsStep, valuesAt}
+use Rattle.sheetparts.specs.Passed.{stuck, ar-next}
+use Rattle.sheetparts.specs.Loops.{arc-more, arcs-end}
+use Rattle.sheetparts.proofs.Tags.{not-next}
 use Rattle.sheetform.proofs.arcs_step.Statement.{statement}
 use Rattle.sheetform.proofs.arcs_step.Tie as tie
 

@@ -4,9 +4,9 @@ use mathlib.Core.Path.{sym, ap, _∙_}
 use native.Mathlib.Omega.{arith}
 use denote.Ref.{now}
 use borrow.Author.Tests.{le-leb, lt-leb}
-use Rattle.sheetform.specs.Form.{reach, checkOf}
-use Rattle.sheetform.specs.Passed.{verdict-bad, front-next}
-use Rattle.sheetform.proofs.Tags.{not-next}
+use Rattle.sheetparts.specs.Form.{reach, checkOf}
+use Rattle.sheetparts.specs.Passed.{verdict-bad, front-next}
+use Rattle.sheetparts.proofs.Tags.{not-next}
 use borrow.Author.Needs.{needs}
 use Rattle.sheetform.proofs.check_sheet.Statement.{statement}
 use Rattle.sheetform.proofs.check_sheet.Tie as tie

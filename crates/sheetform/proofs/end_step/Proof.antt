@@ -1,7 +1,7 @@
 -- `sheetform::end_step` meets its contract.
 -- Assumes nothing.
 use borrow.Author.Tests.{eq-eqb, ne-eqb}
-use Rattle.sheetform.specs.Form.{endStep}
+use Rattle.sheetparts.specs.Form.{endStep}
 use borrow.Author.Needs.{needs}
 use Rattle.sheetform.proofs.end_step.Statement.{statement}
 use Rattle.sheetform.proofs.end_step.Tie as tie

@@ -1,11 +1,11 @@
 -- `sheetform::front_step` meets its contract.
 -- Assumes nothing.
-use Rattle.sheetform.specs.Passed.{head-next, stuck}
-use Rattle.sheetform.specs.Form.{frontStep, reach}
+use Rattle.sheetparts.specs.Passed.{head-next, stuck}
+use Rattle.sheetparts.specs.Form.{frontStep, reach}
 use denote.Ref.{now}
 use native.Mathlib.Omega.{arith}
 use mathlib.Core.Path.{sym, ap, _∙_}
-use Rattle.sheetform.proofs.Tags.{not-next}
+use Rattle.sheetparts.proofs.Tags.{not-next}
 use borrow.Author.Needs.{needs}
 use Rattle.sheetform.proofs.front_step.Statement.{statement}
 use Rattle.sheetform.proofs.front_step.Tie as tie

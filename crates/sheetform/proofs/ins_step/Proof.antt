@@ -6,10 +6,10 @@ use native.Mathlib.Omega.{arith}
 use denote.Ref.{now}
 use borrow.Author.Needs.{needs}
 use lib.ListN.{length}
-use Rattle.sheetform.specs.Form.{insStep, pathLen}
-use Rattle.sheetform.specs.Passed.{stuck, in-next}
-use Rattle.sheetform.specs.Loops.{in-more, ins-end}
-use Rattle.sheetform.proofs.Tags.{not-next}
+use Rattle.sheetparts.specs.Form.{insStep, pathLen}
+use Rattle.sheetparts.specs.Passed.{stuck, in-next}
+use Rattle.sheetparts.specs.Loops.{in-more, ins-end}
+use Rattle.sheetparts.proofs.Tags.{not-next}
 use Rattle.sheetform.proofs.ins_step.Statement.{statement}
 use Rattle.sheetform.proofs.ins_step.Tie as tie
 

@@ -1,7 +1,7 @@
 -- `sheetform::key_cmp` meets its contract.
 -- Assumes nothing.
 use borrow.Author.Tests.{eq-eqb, ne-eqb}
-use Rattle.sheetform.specs.Form.{cmpKey, keyAt}
+use Rattle.sheetparts.specs.Form.{cmpKey, keyAt}
 use borrow.Author.Needs.{needs}
 use Rattle.sheetform.proofs.key_cmp.Statement.{statement}
 use Rattle.sheetform.proofs.key_cmp.Tie as tie

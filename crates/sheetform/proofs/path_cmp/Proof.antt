@@ -1,6 +1,6 @@
 -- `sheetform::path_cmp` meets its contract.
 -- Assumes nothing.
-use Rattle.sheetform.specs.Form.{cmpKey}
+use Rattle.sheetparts.specs.Form.{cmpKey}
 use borrow.Author.Needs.{needs}
 use Rattle.sheetform.proofs.path_cmp.Statement.{statement}
 use Rattle.sheetform.proofs.path_cmp.Tie as tie

@@ -1,7 +1,7 @@
 -- `starred::refusal_chained` meets its contract. Invariant: the least refusal in the instances before k that are of the type, and k is on the chain of the type's bucket.
 -- Assumes nothing.
 use Rattle.applying.specs.Bytes.{leastOf, refusalEvery}
-use Rattle.apply.specs.Turns.{least-with, least-without, least-same, typed, type-is, refusesIn}
+use Rattle.entryarcs.specs.Turns.{least-with, least-without, least-same, typed, type-is, refusesIn}
 use Rattle.bytype.specs.Chains.{OnChain, chain-head, chain-next, skip-head, skip-next}
 use Rattle.bytype.specs.ByType.{bucketOf, typeBucket, linkPlace, other-bucket}
 use Rattle.sheet.specs.Find.{in-there}

@@ -1,7 +1,7 @@
 -- `starred::write_chained` meets its contract. Invariant: what is made of the sheet in the instances before k that are of the type is written, and k is on the chain of the type's bucket.
 -- Assumes nothing.
 use Rattle.applying.specs.Bytes.{writtenOf, writtenEvery}
-use Rattle.apply.specs.Turns.{written-with, written-without, written-same, typed, type-is, writesIn}
+use Rattle.entryarcs.specs.Turns.{written-with, written-without, written-same, typed, type-is, writesIn}
 use Rattle.bytype.specs.Chains.{OnChain, chain-head, chain-next, skip-head, skip-next}
 use Rattle.bytype.specs.ByType.{bucketOf, typeBucket, linkPlace, other-bucket}
 use Rattle.sheet.specs.Find.{in-there}

@@ -6,7 +6,7 @@ use native.Mathlib.Numerals.{add-one}
 use denote.Ref.{now}
 use borrow.Author.Needs.{needs}
 use Rattle.swaparcs.specs.Turns.{leaves, behind-at, events-fit}
-use Rattle.swapchunk.specs.Through.{through-own, through-behind}
+use Rattle.seating.specs.Through.{through-own, through-behind}
 use Rattle.swapchunk.proofs.run_rest.Statement.{statement}
 use Rattle.swapchunk.proofs.run_rest.Tie as tie
 

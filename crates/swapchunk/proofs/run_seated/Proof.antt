@@ -4,9 +4,9 @@ use mathlib.Core.Path.{refl, sym, _∙_}
 use native.Mathlib.Omega.{arith}
 use denote.Ref.{now}
 use borrow.Author.Needs.{needs}
-use Rattle.annotate.specs.Cells.{entriesBefore}
+use Rattle.meaning.specs.Cells.{entriesBefore}
 use Rattle.swaparcs.specs.Turns.{front-room, events-fit}
-use Rattle.swapchunk.specs.Through.{through-before, front-ran}
+use Rattle.seating.specs.Through.{through-before, front-ran}
 use Rattle.swapchunk.proofs.run_seated.Statement.{statement}
 use Rattle.swapchunk.proofs.run_seated.Tie as tie
 

@@ -4,7 +4,7 @@ use mathlib.Core.Path.{refl, sym, _∙_}
 use denote.Ref.{now}
 use borrow.Author.Needs.{needs}
 use borrow.Author.Tests.{not-true, not-false}
-use Rattle.swapseats.specs.Chunks.{swapped-done, swapped-stop}
+use Rattle.chunks.specs.Chunks.{swapped-done, swapped-stop}
 use Rattle.swapseats.proofs.swap_chunks.Statement.{statement}
 use Rattle.swapseats.proofs.swap_chunks.Tie as tie
 

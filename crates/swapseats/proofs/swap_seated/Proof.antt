@@ -11,7 +11,7 @@ use Rattle.sheetlaws.specs.Sheet.{nth}
 use Rattle.findseat.specs.Laws.{order-there}
 use Rattle.touchseats.specs.Laws.{chosen-order}
 use Rattle.swaparcs.specs.ArcLaws.{arcs-none, arcs-end, written-none, written-end}
-use Rattle.swapseats.specs.Chunks.{part-judged, part-written, swapped-done, swapped-stop}
+use Rattle.chunks.specs.Chunks.{part-judged, part-written, swapped-done, swapped-stop}
 use Rattle.swapseats.proofs.swap_seated.Statement.{statement}
 use Rattle.swapseats.proofs.swap_seated.Tie as tie
 

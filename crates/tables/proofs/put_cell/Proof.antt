@@ -1,6 +1,5 @@
 -- `tables::put_cell` meets its contract.
 -- Assumes nothing.
-use Prim.Native.Nat.{_-_}
 use mathlib.Core.Path.{_∙_}
 use borrow.Author.Needs.{needs}
 use Rattle.tables.proofs.put_cell.Statement.{statement}

@@ -9,8 +9,8 @@ use mir.Val.{SFits, toZ}
 use mir.Syntax.{w64}
 use borrow.Author.Tests.{le-leb, lt-leb}
 use borrow.Author.Needs.{needs}
-use Rattle.times.specs.declared.Number.the-variants.{Time}
-use Rattle.times.specs.Value.{limit}
+use Rattle.numbershape.specs.declared.Number.the-variants.{Time}
+use Rattle.numbershape.specs.Value.{limit}
 use Rattle.times.proofs.finish.Statement.{statement}
 use Rattle.times.proofs.finish.Tie as tie
 

@@ -6,7 +6,7 @@ use native.Mathlib.Omega.{arith}
 use native.Mathlib.Nat.{mul-le-mul-left, one-le-pow, mul-one}
 use lib.Dec.{lit<}
 use borrow.Author.Needs.{needs}
-use Rattle.times.specs.Steps.{stop, raise-step}
+use Rattle.numbershape.specs.Steps.{stop, raise-step}
 use Rattle.times.proofs.raise.Statement.{statement}
 use Rattle.times.proofs.raise.Tie as tie
 

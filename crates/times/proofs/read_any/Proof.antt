@@ -8,10 +8,10 @@ use denote.Enum.Declared.{tagOf, declared}
 use denote.Ref.{now}
 use borrow.Author.Needs.{needs}
 use Rattle.times.specs.Reading.{reads, figures-count, figures-small, value-below, value-above, value-wrong}
-use Rattle.times.specs.Places.{found-shape, isSplit}
-use Rattle.times.specs.declared.Found.the-variants.{Split, Misshapen}
-use Rattle.times.specs.declared.Found.{Found}
-use Rattle.times.proofs.Found.{enum}
+use Rattle.numbershape.specs.Places.{found-shape, isSplit}
+use Rattle.numbershape.specs.declared.Found.the-variants.{Split, Misshapen}
+use Rattle.numbershape.specs.declared.Found.{Found}
+use Rattle.numbershape.proofs.Found.{enum}
 use Rattle.times.proofs.read_any.Statement.{statement}
 use Rattle.times.proofs.read_any.Tie as tie
 

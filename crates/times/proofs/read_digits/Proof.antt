@@ -5,7 +5,7 @@ use mathlib.Core.Path.{_≡_, ap, _∙_, sym}
 use lib.ListN.{length, drop}
 use denote.Ref.{now}
 use borrow.Author.Needs.{needs}
-use Rattle.times.specs.Steps.{stop, fold, stepOf, start, fold-turn, fold-end}
+use Rattle.numbershape.specs.Steps.{stop, fold, stepOf, start, fold-turn, fold-end}
 use Rattle.times.proofs.read_digits.Statement.{statement}
 use Rattle.times.proofs.read_digits.Tie as tie
 

@@ -6,7 +6,7 @@ use lib.ListN.{drop}
 use denote.Ref.{now}
 use borrow.Author.Needs.{needs}
 use Rattle.times.specs.Plain.{plainOf, plain-value, plain-bound}
-use Rattle.times.specs.Value.{atMost}
+use Rattle.numbershape.specs.Value.{atMost}
 use Rattle.times.proofs.read_number.Statement.{statement}
 use Rattle.times.proofs.read_number.Tie as tie
 

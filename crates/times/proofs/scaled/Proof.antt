@@ -5,7 +5,7 @@ use mathlib.Core.Path.{_∙_}
 use native.Mathlib.Omega.{arith}
 use denote.Ref.{now}
 use borrow.Author.Needs.{needs}
-use Rattle.times.specs.Steps.{up-way, down-way}
+use Rattle.numbershape.specs.Steps.{up-way, down-way}
 use Rattle.times.proofs.scaled.Statement.{statement}
 use Rattle.times.proofs.scaled.Tie as tie
 

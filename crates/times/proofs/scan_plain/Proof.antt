@@ -6,10 +6,11 @@ use native.Mathlib.Omega.{arith}
 use lib.ListN.{drop}
 use denote.Ref.{now}
 use borrow.Author.Needs.{needs}
-use Rattle.times.specs.Plain.{min-horner, plain-none, plain-whole, plain-other, plain-pointless, plain-more, plain-pointed}
-use Rattle.times.specs.Steps.{stop}
-use Rattle.times.specs.Value.{horner}
-use Rattle.times.specs.Shape.{leading}
+use Rattle.numbershape.specs.Scans.{min-horner}
+use Rattle.times.specs.Plain.{plain-none, plain-whole, plain-other, plain-pointless, plain-more, plain-pointed}
+use Rattle.numbershape.specs.Steps.{stop}
+use Rattle.numbershape.specs.Value.{horner}
+use Rattle.numbershape.specs.Shape.{leading}
 use Rattle.times.specs.declared.Plain.the-variants.{Value}
 use Rattle.times.proofs.scan_plain.Statement.{statement}
 use Rattle.times.proofs.scan_plain.Tie as tie

@@ -2,7 +2,7 @@
 -- Assumes nothing.
 use borrow.Author.Tests.{le-leb, lt-leb, eq-eqb, ne-eqb}
 use borrow.Author.Needs.{needs}
-use Rattle.times.specs.Steps.{stepOf}
+use Rattle.numbershape.specs.Steps.{stepOf}
 use Rattle.times.proofs.step.Statement.{statement}
 use Rattle.times.proofs.step.Tie as tie
 

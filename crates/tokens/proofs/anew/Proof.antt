@@ -1,6 +1,5 @@
 -- `tokens::anew` meets its contract.
 -- Assumes nothing.
-use Prim.Native.Nat.{_-_}
 use mathlib.Core.Path.{sym}
 use borrow.Author.Needs.{needs}
 use Rattle.tokens.proofs.anew.Statement.{statement}

@@ -1,18 +1,18 @@
 -- `tokens::count_tokens` meets its contract: the tokens counted so far, and those from here on, are all.
 -- Assumes nothing.
-use Prim.Native.Nat.{ℕ, suc, _≤_, _<_, _+_, _-_}
+use Prim.Native.Nat.{ℕ, suc, _≤_, _+_, _-_}
 use mathlib.Core.Path.{_≡_, sym, _∙_, ap, refl}
 use native.Mathlib.Omega.{arith}
 use mathlib.Core.Bool.{Bool}
 use mathlib.Core.List.{List}
 use lib.ListN.{length}
 use denote.Enum.Declared.{tagOf, declared}
-use Rattle.tokens.proofs.Token.{enum}
+use Rattle.tokenforms.proofs.Token.{enum}
 use denote.Ref.{now}
 use borrow.Author.Needs.{needs}
-use Rattle.tokens.specs.Tokens.{tokenAt}
-use Rattle.tokens.specs.declared.Token.{Token}
-use Rattle.tokens.specs.declared.Token.the-variants.{Got, Stop}
+use Rattle.tokenforms.specs.Tokens.{tokenAt}
+use Rattle.tokenforms.specs.declared.Token.{Token}
+use Rattle.tokenforms.specs.declared.Token.the-variants.{Got, Stop}
 use Rattle.tokens.specs.Stream.{Stream, onward, stream, count, stream-turn, onwards}
 use Rattle.tokens.proofs.count_tokens.Statement.{statement}
 use Rattle.tokens.proofs.count_tokens.Tie as tie

@@ -1,6 +1,5 @@
 -- `tokens::mark_from` meets its contract.
 -- Assumes nothing.
-use Prim.Native.Nat.{_-_}
 use native.Mathlib.Nat.{not-suc-le-zero}
 use mathlib.Core.Path.{sym, _∙_}
 use denote.Ref.{now}

@@ -1,13 +1,13 @@
 -- `tokens::path_end` meets its contract.
 -- Assumes nothing.
-use Prim.Native.Nat.{_≤_, _<_, _+_, _-_}
-use mathlib.Core.Path.{_≡_, sym, _∙_}
+use Prim.Native.Nat.{_≤_, _+_, _-_}
+use mathlib.Core.Path.{_≡_, _∙_}
 use native.Mathlib.Omega.{arith}
 use denote.Ref.{now}
 use lib.ListN.{length, getD}
 use borrow.Author.Needs.{needs}
 use Rattle.classes.specs.Classes.{classOf}
-use Rattle.tokens.specs.Machines.{wordEnd}
+use Rattle.scanning.specs.Machines.{wordEnd}
 use Rattle.tokens.specs.Quick.{slash-goes}
 use Rattle.tokens.proofs.path_end.Statement.{statement}
 use Rattle.tokens.proofs.path_end.Tie as tie

@@ -4,7 +4,7 @@ use mathlib.Core.Path.{_∙_, ap}
 use lib.ListN.{length}
 use denote.Ref.{now}
 use borrow.Author.Needs.{needs}
-use Rattle.annotate.specs.Entries.{rowsAt}
+use Rattle.meaning.specs.Entries.{rowsAt}
 use Rattle.touchseats.specs.Laws.{seat-put, touched-long}
 use Rattle.touchseats.proofs.touch_seat.Statement.{statement}
 use Rattle.touchseats.proofs.touch_seat.Tie as tie

@@ -1,6 +1,5 @@
 -- `views::cell_at` meets its contract.
 -- Assumes nothing.
-use Prim.Native.Nat.{_-_}
 use borrow.Author.Needs.{needs}
 use Rattle.views.specs.Views.{cellAt}
 use Rattle.views.proofs.cell_at.Statement.{statement}

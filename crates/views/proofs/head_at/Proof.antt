@@ -1,6 +1,5 @@
 -- `views::head_at` meets its contract.
 -- Assumes nothing.
-use Prim.Native.Nat.{_-_}
 use borrow.Author.Needs.{needs}
 use Rattle.views.specs.Views.{headAt}
 use Rattle.views.proofs.head_at.Statement.{statement}

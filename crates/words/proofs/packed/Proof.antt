@@ -2,7 +2,7 @@
 -- and it is below 256 ^ i.
 -- Assumes nothing.
 use Prim.Native.Nat.{_<_, _≤_, _-_, _^_}
-use mathlib.Core.Path.{_≡_, refl, sym, _∙_, ap}
+use mathlib.Core.Path.{_≡_, refl, sym, _∙_}
 use native.Mathlib.Omega.{arith}
 use borrow.Author.Needs.{needs}
 use lib.ListN.{length, drop}

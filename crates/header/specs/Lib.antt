@@ -1,4 +1,0 @@
-pub mod Steps
-pub mod Short
-pub mod Texts
-pub mod Header

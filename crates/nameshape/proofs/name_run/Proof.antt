@@ -1,0 +1,67 @@
+-- `nameshape::name_run` meets its contract.
+-- Assumes nothing.
+use Rattle.nameshape.specs.Shape.{nameRun, run-turn, run-end, plain-run}
+use lib.ListN.{length, drop}
+use denote.Ref.{now}
+use borrow.Author.Needs.{needs}
+use mathlib.Core.Path.{_≡_, sym, _∙_}
+use Prim.Native.Nat.{_≤_, _-_}
+use Rattle.nameshape.proofs.name_run.Statement.{statement}
+use Rattle.nameshape.proofs.name_run.Tie as tie
+
+abbrev Inv-loop : tie.InvT-loop
+Inv-loop word slash i₀ state₀ i state = (i ≤ length word) × (nameRun slash state (drop i word) ≡ nameRun slash 0 word)
+
+abbrev μ-loop : tie.MeasureT-loop
+μ-loop word slash i₀ state₀ i state = length word - i
+
+plain-run-requires : tie.Need-plain-run-requires Inv-loop μ-loop
+plain-run-requires c κs = search needs
+
+state-behind-requires : tie.Need-state-behind-requires Inv-loop μ-loop
+state-behind-requires c κs = search needs
+
+loop-holds : tie.Need-loop-holds Inv-loop μ-loop
+loop-holds c =
+    let a = c .before .before .before .args in
+    (search needs, rw (c .state-behind .ensures, c .before .plain-run .ensures .0) (plain-run (now (a .word)) (a .slash)))
+
+shared-slice-read-name-next : tie.Need-shared-slice-read-name-next Inv-loop μ-loop
+shared-slice-read-name-next c = search needs
+
+name-next-requires : tie.Need-name-next-requires Inv-loop μ-loop
+name-next-requires c κs = search needs
+
+add-i : tie.Need-add-i Inv-loop μ-loop
+add-i c = search needs
+
+loop-less : tie.Need-loop-less Inv-loop μ-loop
+loop-less c = search needs
+
+loop-again : tie.Need-loop-again Inv-loop μ-loop
+loop-again c =
+    let a = c .before .before .before .before .before .before .before .args in
+    let l = c .before .before .before .loop in
+    (search needs, sym (run-turn (now (a .word)) (a .slash) (l .state) (l .i) (search needs) ∙ rw (← c .name-next .ensures)) ∙ l .inv .1)
+
+returns : tie.Need-returns Inv-loop μ-loop
+returns c =
+    let a = c .before .before .before .before .before .args in
+    let l = c .before .loop in
+    sym (run-end (now (a .word)) (a .slash) (l .state) (l .i) (search needs)) ∙ l .inv .1
+
+pub name-run-spec : {M : Type 1} → statement M
+name-run-spec =
+    tie.close
+    (tie.spec
+    Inv-loop
+    μ-loop
+    plain-run-requires
+    state-behind-requires
+    loop-holds
+    shared-slice-read-name-next
+    name-next-requires
+    add-i
+    loop-less
+    loop-again
+    returns)

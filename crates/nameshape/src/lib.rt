@@ -1,0 +1,272 @@
+// The shape of names and quoted texts.
+ghost use mathlib.Core.Path.{_≡_};
+ghost use mathlib.Core.Bool.{true, false};
+ghost use Prim.Native.Nat.{_≤_};
+ghost use lib.Dec.{eqb};
+ghost use lib.ListN.{length};
+ghost use Rattle.classes.specs.Choice.{pick, within};
+ghost use Rattle.nameshape.specs.Shape.{isNameByte, isEscapable, isLegal, escapes, mayFollow, divider, bodyNext, bracketNext, nameNext, nameRun, plainRun, mayEnd, isPath, isPort, isText};
+
+// Where a reader of a name's bytes stands.
+const START: u8 = 0; // before a component's first byte
+
+const BODY: u8 = 1; // in a component
+
+const ESCAPE: u8 = 2; // behind a backslash
+
+const BRACKET: u8 = 3; // behind `[`
+
+const INDEX: u8 = 4; // in n
+
+const COLON: u8 = 5; // behind `:`
+
+const SECOND: u8 = 6; // in the second n
+
+const INDEXED: u8 = 7; // behind the `]` of `[n]`
+
+const RANGED: u8 = 8; // behind the `]` of `[n:n]`
+
+const WRONG: u8 = 9; // no name goes on like this
+
+fn is_within(low: u8, high: u8, byte: u8) -> bool
+    ensures { λ r. ⌜ r ≡ within low high byte ⌝ }
+{
+    if low <= byte {
+        return byte <= high;
+    }
+    false
+}
+
+// A letter, a digit, `_` or `$`.
+fn is_name_byte(byte: u8) -> bool
+    ensures { λ r. ⌜ r ≡ isNameByte byte ⌝ }
+{
+    if is_within(65, 90, byte) {
+        return true;
+    }
+    if is_within(97, 122, byte) {
+        return true;
+    }
+    if is_within(48, 57, byte) {
+        return true;
+    }
+    if byte == 95 {
+        return true;
+    }
+    byte == 36
+}
+
+fn is_escapable(byte: u8) -> bool
+    ensures { λ r. ⌜ r ≡ isEscapable byte ⌝ }
+{
+    is_within(33, 126, byte)
+}
+
+// The byte of the divider: `/` or `.`.
+pub fn divider_of(slash: bool) -> u8
+    ensures { λ r. ⌜ r ≡ divider slash ⌝ }
+{
+    if slash {
+        return 47;
+    }
+    46
+}
+
+fn body_next(slash: bool, state: u8, byte: u8) -> u8
+    ensures { λ r. ⌜ r ≡ bodyNext slash state byte ⌝ }
+{
+    if is_name_byte(byte) {
+        return BODY;
+    }
+    if byte == 92 {
+        return ESCAPE;
+    }
+    if state == START {
+        return WRONG;
+    }
+    if byte == divider_of(slash) {
+        return START;
+    }
+    if byte == 91 {
+        return BRACKET;
+    }
+    WRONG
+}
+
+fn bracket_next(state: u8, byte: u8) -> u8
+    ensures { λ r. ⌜ r ≡ bracketNext state byte ⌝ }
+{
+    if is_within(48, 57, byte) {
+        if state == BRACKET {
+            return INDEX;
+        }
+        if state == INDEX {
+            return INDEX;
+        }
+        return SECOND;
+    }
+    if state == INDEX {
+        if byte == 93 {
+            return INDEXED;
+        }
+        if byte == 58 {
+            return COLON;
+        }
+        return WRONG;
+    }
+    if state == SECOND {
+        if byte == 93 {
+            return RANGED;
+        }
+        return WRONG;
+    }
+    WRONG
+}
+
+fn name_next(slash: bool, state: u8, byte: u8) -> u8
+    ensures { λ r. ⌜ r ≡ nameNext slash state byte ⌝ }
+{
+    if state <= BODY {
+        return body_next(slash, state, byte);
+    }
+    if state == ESCAPE {
+        if is_escapable(byte) {
+            return BODY;
+        }
+        return WRONG;
+    }
+    if state <= SECOND {
+        return bracket_next(state, byte);
+    }
+    if state == INDEXED {
+        if byte == divider_of(slash) {
+            return START;
+        }
+        return WRONG;
+    }
+    WRONG
+}
+
+// How many letters, digits, `_` and `$` a word begins with: most words are nothing else.
+fn plain_run(word: &[u8]) -> usize
+    ensures { λ r. ⌜ (r ≡ plainRun (now (word .entry))) × (r ≤ length (now (word .entry))) ⌝ }
+{
+    let mut i = 0;
+    while i < word.len() {
+        if is_name_byte(word[i]) {
+            i += 1;
+        } else {
+            return i;
+        }
+    }
+    i
+}
+
+// Where a reader stands behind n of them.
+fn state_behind(n: usize) -> u8
+    ensures { λ r. ⌜ r ≡ pick (eqb n 0) 0 1 ⌝ }
+{
+    if n == 0 {
+        return START;
+    }
+    BODY
+}
+
+// Where a reader of the whole word stands.
+fn name_run(word: &[u8], slash: bool) -> u8
+    ensures { λ r. ⌜ r ≡ nameRun slash 0 (now (word .entry)) ⌝ }
+{
+    let mut i = plain_run(word);
+    let mut state = state_behind(i);
+    while i < word.len() {
+        state = name_next(slash, state, word[i]);
+        i += 1;
+    }
+    state
+}
+
+fn may_end(port: bool, state: u8) -> bool
+    ensures { λ r. ⌜ r ≡ mayEnd port state ⌝ }
+{
+    if state == BODY {
+        return true;
+    }
+    if state == INDEXED {
+        return true;
+    }
+    if state == RANGED {
+        return port;
+    }
+    false
+}
+
+// Whether the word is an instance's path, with the divider `/` or `.`.
+pub fn is_path(word: &[u8], slash: bool) -> bool
+    ensures { λ r. ⌜ r ≡ isPath slash (now (word .entry)) ⌝ }
+{
+    may_end(false, name_run(word, slash))
+}
+
+// Whether the word is a port's name, with the divider `/` or `.`.
+pub fn is_port(word: &[u8], slash: bool) -> bool
+    ensures { λ r. ⌜ r ≡ isPort slash (now (word .entry)) ⌝ }
+{
+    may_end(true, name_run(word, slash))
+}
+
+fn is_legal(byte: u8) -> bool
+    ensures { λ r. ⌜ r ≡ isLegal byte ⌝ }
+{
+    if byte == 9 {
+        return true;
+    }
+    if byte == 10 {
+        return true;
+    }
+    if byte == 13 {
+        return true;
+    }
+    if byte == 32 {
+        return true;
+    }
+    is_within(32, 126, byte)
+}
+
+// Whether a backslash has the next byte escaped.
+pub fn escape(escaped: bool, byte: u8) -> bool
+    ensures { λ r. ⌜ r ≡ escapes escaped byte ⌝ }
+{
+    if escaped {
+        return false;
+    }
+    byte == 92
+}
+
+fn may_follow(escaped: bool, byte: u8) -> bool
+    ensures { λ r. ⌜ r ≡ mayFollow escaped byte ⌝ }
+{
+    if is_legal(byte) {
+        if escaped {
+            return true;
+        }
+        return byte != 34;
+    }
+    false
+}
+
+// Whether the text may stand between two quotes.
+pub fn is_text(text: &[u8]) -> bool
+    ensures { λ r. ⌜ r ≡ isText (now (text .entry)) ⌝ }
+{
+    let mut i = 0;
+    let mut escaped = false;
+    while i < text.len() {
+        let byte = text[i];
+        if !may_follow(escaped, byte) {
+            return false;
+        }
+        escaped = escape(escaped, byte);
+        i += 1;
+    }
+    !escaped
+}
