@@ -14,11 +14,11 @@ use Rattle.grammar.specs.Meaning.{Item}
 use Rattle.grammar.specs.Reading.{At}
 use Rattle.grammar.specs.Outcome.{readFile}
 use Rattle.tables.specs.Left.{cellsLeft, entriesLeft}
-use Rattle.reader.specs.Files.{FileIs, slashOf}
-use Rattle.reader.specs.Files as file
+use Rattle.readcells.specs.Files.{FileIs, slashOf}
+use Rattle.readcells.specs.Files as file
 use Rattle.readcells.specs.declared.Answer as reading
 use Rattle.readcells.specs.declared.Answer.the-variants as answer
-use Rattle.reader.specs.declared.FileRead.{FileRead}
+use Rattle.readcells.specs.declared.FileRead.{FileRead}
 use Rattle.sheetparts.specs.Form.{checkOf}
 use Rattle.sheetparts.specs.declared.SheetCheck.the-variants.{Good, Bad}
 use Rattle.sheetlaws.specs.Sheet.{decode}

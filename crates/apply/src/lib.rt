@@ -40,7 +40,7 @@ pub fn refusal_in(
     match entryarcs::arc_of(start, text, plan, entry, marks, instance) {
         Found::At(arc) => amounts::arc_refusal(
             out,
-            sheet::values_place(start, arc),
+            sheetrecords::values_place(start, arc),
             rows,
             entry.group == ADDS,
         ),
@@ -70,7 +70,7 @@ pub fn write_in(
     match entryarcs::arc_of(start, text, plan, entry, marks, instance) {
         Found::At(arc) => amounts::write_arc(
             out,
-            sheet::values_place(start, arc),
+            sheetrecords::values_place(start, arc),
             rows,
             entry.group == ADDS,
         ),
@@ -104,7 +104,7 @@ pub fn apply_in(
     }
     match entryarcs::arc_of(start, text, plan, entry, marks, instance) {
         Found::At(arc) => {
-            let values = sheet::values_place(start, arc);
+            let values = sheetrecords::values_place(start, arc);
             let refusal = amounts::arc_refusal(out, values, rows, entry.group == ADDS);
             if refusal == 0 {
                 amounts::write_arc(out, values, rows, entry.group == ADDS);
@@ -140,7 +140,7 @@ pub fn refusal_every(
                 refusal_in(start, text, plan, entry, rows, marks, out, here),
             );
         }
-        here = sheet::next_instance(start, here);
+        here = sheetrecords::next_instance(start, here);
         k += 1;
     }
     least
@@ -167,7 +167,7 @@ fn write_every(
         if entryarcs::is_of(start, here, celltype) {
             write_in(start, text, plan, entry, rows, marks, out, here);
         }
-        here = sheet::next_instance(start, here);
+        here = sheetrecords::next_instance(start, here);
         k += 1;
     }
 }

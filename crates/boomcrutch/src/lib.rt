@@ -1,48 +1,23 @@
 // What Rust and C call: the functions of the static library. Each takes whatever it is given; bad input gets its refusal.
 ghost use mathlib.Core.Path.{_≡_};
-ghost use mathlib.Core.Bool.{false};
 ghost use Prim.Native.Nat.{_/_};
-ghost use lib.ListN.{length, replicate};
-ghost use Rattle.classes.specs.Choice.{pick};
+ghost use lib.ListN.{length};
 ghost use Rattle.tokens.specs.Stream.{stream, count};
 ghost use Rattle.grammar.specs.Outcome.{readFile};
 ghost use Rattle.tables.specs.Left.{cellsLeft, entriesLeft};
 ghost use Rattle.sheetparts.specs.Form.{checkOf};
 ghost use Rattle.meaning.specs.Meaning.{course, cellsOut, entriesOut, outOf};
 ghost use Rattle.patch.specs.Meaning as patching;
-ghost use Rattle.boomcrutch.specs.Exports.{annotatedNumbers, PatchLeft, fileNumbers, readNumbers, cellBy, sheetNumbers};
-use meaning::Annotated;
+ghost use Rattle.answers.specs.Exports.{annotatedNumbers, PatchLeft, readNumbers, cellBy, sheetNumbers};
 use annotate::annotate;
 use patch::patch;
 use tokens::count_tokens;
-use readcells::Answer;
-use reader::FileRead;
 use reader::read_file;
-use reader::read_cell;
-use sheetparts::SheetCheck;
+use onecell::read_cell;
 use sheetform::check_sheet;
-use swap::Patched;
-
-// The answer of a reading: number 0 and what was read, with from, to of each of the header's texts; or a refusal's number and place.
-#[repr(C)]
-pub struct ReadNumbers {
-    pub number: u64,
-    pub place: u64,
-    pub cells: u64,
-    pub entries: u64,
-    pub slash: u64,
-    pub scale: u64,
-    pub texts: [usize; 14],
-}
-
-// The answer of a sheet's check: number 0 and the counts, or refusal 10.
-#[repr(C)]
-pub struct SheetNumbers {
-    pub number: u64,
-    pub place: u64,
-    pub instances: u64,
-    pub arcs: u64,
-}
+use answers::ReadNumbers;
+use answers::SheetNumbers;
+use answers::ResultNumbers;
 
 // How many tokens a text has before what ends them.
 #[no_mangle]
@@ -52,44 +27,13 @@ pub extern "C" fn boomcrutch_count_tokens(text: &[u8]) -> usize
     count_tokens(text)
 }
 
-fn bit(flag: bool) -> u64
-    ensures { λ r. ⌜ r ≡ pick flag 1 0 ⌝ }
-{
-    if flag { 1 } else { 0 }
-}
-
-// The numbers of a reading's answer.
-fn numbers(read: FileRead) -> ReadNumbers
-    ensures { λ r. ⌜ r ≡ fileNumbers (read .answer) (read .slash) (read .unit) (read .texts) ⌝ }
-{
-    let answer = read.answer;
-    let texts = read.texts;
-    match answer {
-        Answer::Refused { number, place } => {
-            ReadNumbers { number: number as u64, place: place as u64, cells: 0, entries: 0, slash: 0, scale: 0, texts: texts }
-        }
-        Answer::Read { cells: c, entries: e } => {
-            let slash = read.slash;
-            let unit = read.unit;
-            ReadNumbers { number: 0, place: 0, cells: c as u64, entries: e as u64, slash: bit(slash), scale: unit as u64, texts: texts }
-        }
-    }
-}
-
 // Reads a file into the two tables.
 #[no_mangle]
 pub extern "C" fn boomcrutch_read_file(text: &[u8], cells: &mut [u64], entries: &mut [u64]) -> ReadNumbers
     ensures { λ r. ⌜ (r ≡ readNumbers (readFile (length (now (cells .entry)) / 7) (length (now (entries .entry)) / 28) (now (text .entry)))) × (now (cells .exit) ≡ cellsLeft (readFile (length (now (cells .entry)) / 7) (length (now (entries .entry)) / 28) (now (text .entry))) (now (cells .entry))) × (now (entries .exit) ≡ entriesLeft (readFile (length (now (cells .entry)) / 7) (length (now (entries .entry)) / 28) (now (text .entry))) (now (entries .entry))) ⌝ }
 {
     let read = read_file(text, cells, entries);
-    numbers(read)
-}
-
-// The answer where the divider or the time scale is none that a file can have: 255, which is no refusal's number.
-fn no_setting() -> ReadNumbers
-    ensures { λ r. ⌜ r ≡ fileNumbers (Answer.Refused 255 0) false 6 (replicate 14 0) ⌝ }
-{
-    ReadNumbers { number: 255, place: 0, cells: 0, entries: 0, slash: 0, scale: 0, texts: [0usize; 14] }
+    answers::numbers(read)
 }
 
 // Reads a text that is one cell into the two tables, by the divider (0 for ., 1 for /) and the time scale of its file.
@@ -98,13 +42,13 @@ pub extern "C" fn boomcrutch_read_cell(text: &[u8], slash: u64, scale: u64, cell
     ensures { λ r. ⌜ (r ≡ readNumbers (cellBy slash scale (length (now (cells .entry)) / 7) (length (now (entries .entry)) / 28) (now (text .entry)))) × (now (cells .exit) ≡ cellsLeft (cellBy slash scale (length (now (cells .entry)) / 7) (length (now (entries .entry)) / 28) (now (text .entry))) (now (cells .entry))) × (now (entries .exit) ≡ entriesLeft (cellBy slash scale (length (now (cells .entry)) / 7) (length (now (entries .entry)) / 28) (now (text .entry))) (now (entries .entry))) ⌝ }
 {
     if 1 < slash {
-        return no_setting();
+        return answers::no_setting();
     }
     if 17 < scale {
-        return no_setting();
+        return answers::no_setting();
     }
     let read = read_cell(text, slash == 1, scale as u8, cells, entries);
-    numbers(read)
+    answers::numbers(read)
 }
 
 // Checks a timing sheet.
@@ -113,20 +57,7 @@ pub extern "C" fn boomcrutch_check_sheet(sheet: &[u8]) -> SheetNumbers
     ensures { λ r. ⌜ r ≡ sheetNumbers (checkOf (now (sheet .entry))) ⌝ }
 {
     let check = check_sheet(sheet);
-    match check {
-        SheetCheck::Bad { number, place } => SheetNumbers { number: 10, place: 0, instances: 0, arcs: 0 },
-        SheetCheck::Good { instances, arcs, first_arc } => {
-            SheetNumbers { number: 0, place: 0, instances: instances as u64, arcs: arcs as u64 }
-        }
-    }
-}
-
-// The answer of annotating or patching: number 0, or a refusal's number and its place, which stands in the incoming text if `incoming` is 1.
-#[repr(C)]
-pub struct ResultNumbers {
-    pub number: u64,
-    pub place: u64,
-    pub incoming: u64,
+    answers::sheet_numbers(check)
 }
 
 // Annotates the starting sheet with a file.
@@ -148,10 +79,7 @@ pub extern "C" fn boomcrutch_annotate(
         (length (now (cells .entry)) / 7) (length (now (entries .entry)) / 28) (length (now (out .entry))))) ⌝ }
 {
     let answer = annotate(start, text, cells, entries, out);
-    match answer {
-        Annotated::Done => ResultNumbers { number: 0, place: 0, incoming: 0 },
-        Annotated::Refused { number, place } => ResultNumbers { number: number as u64, place: place as u64, incoming: 0 },
-    }
+    answers::annotated_numbers(answer)
 }
 
 // Patches the current sheet: cell `number` of the file, from 1, is swapped for the incoming one.
@@ -174,10 +102,5 @@ pub extern "C" fn boomcrutch_patch<'a>(
         (now (current .entry)) (now (current .exit)) r ⌝ }
 {
     let answer = patch(start, file, number as usize, incoming, current, cells, entries, incoming_cells, incoming_entries);
-    match answer {
-        Patched::Done => ResultNumbers { number: 0, place: 0, incoming: 0 },
-        Patched::Refused { number: n, place, incoming: side } => {
-            ResultNumbers { number: n as u64, place: place as u64, incoming: bit(side) }
-        }
-    }
+    answers::patched_numbers(answer)
 }

@@ -80,7 +80,7 @@ fn note_places(sheet: &[u8], count: usize, first: usize, ends: &mut [u32; 135168
     let mut here = first;
     while k < count {
         ends[4096 + k] = here as u32;
-        here = sheet::next_arc(sheet, here);
+        here = sheetrecords::next_arc(sheet, here);
         k += 1;
     }
 }
@@ -95,7 +95,7 @@ fn chain(sheet: &[u8], count: usize, first: usize, ends: &mut [u32; 135168])
     while 0 < k {
         k -= 1;
         let here = widen(ends[4096 + k]);
-        let bucket = below_bucket(sheet::second_end(sheet, here));
+        let bucket = below_bucket(sheetrecords::second_end(sheet, here));
         ends[4096 + k] = ends[bucket];
         ends[bucket] = k as u32;
     }

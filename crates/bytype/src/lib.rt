@@ -62,7 +62,7 @@ fn note_spots(sheet: &[u8], count: usize, index: &mut [u32; 135168])
     let mut here = INSTANCES;
     while k < count {
         index[4097 + 2 * k] = here as u32;
-        here = sheet::next_instance(sheet, here);
+        here = sheetrecords::next_instance(sheet, here);
         k += 1;
     }
 }
@@ -77,7 +77,7 @@ fn chain(sheet: &[u8], count: usize, index: &mut [u32; 135168])
     while 0 < k {
         k -= 1;
         let here = widen(index[4097 + 2 * k]);
-        let bucket = bucket_of(sheet::instance_type(sheet, here));
+        let bucket = bucket_of(sheetrecords::instance_type(sheet, here));
         index[4096 + 2 * k] = index[bucket];
         index[bucket] = k as u32;
     }

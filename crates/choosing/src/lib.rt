@@ -46,7 +46,7 @@ pub fn choose(
             arcs[count] = here;
             count += 1;
         }
-        here = sheet::next_arc(start, here);
+        here = sheetrecords::next_arc(start, here);
         next += 1;
     }
     Chosen {

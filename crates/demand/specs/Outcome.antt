@@ -5,8 +5,8 @@ use mathlib.Core.Path.{_≡_, sym, _∙_}
 use mathlib.Core.List.{List}
 use Rattle.grammar.specs.Machine.{Res}
 use Rattle.grammar.specs.Reading.{At}
-use Rattle.reader.specs.declared.FileRead.{FileRead}
-use Rattle.reader.specs.Files.{FileIs}
+use Rattle.readcells.specs.declared.FileRead.{FileRead}
+use Rattle.readcells.specs.Files.{FileIs}
 use Rattle.swap.specs.declared.Patched.{Patched}
 use Rattle.patch.specs.Meaning.{Course, PatchIs}
 

@@ -44,11 +44,11 @@ pub fn device_hit(
     requires { ⌜ (inEnd (now start) instance ≤ length (now start)) × (arNext (now start) arc ≤ length (now start)) ⌝ }
     ensures { λ r. ⌜ r ≡ deviceHit (now (start .entry)) (now (text .entry)) slash entry instance arc ⌝ }
 {
-    if sheet::arc_kind(start, arc) != IOPATH {
+    if sheetrecords::arc_kind(start, arc) != IOPATH {
         return false;
     }
-    let end = sheet::second_end(start, arc);
-    let path = sheet::instance_path(start, instance);
+    let end = sheetrecords::second_end(start, arc);
+    let path = sheetrecords::instance_path(start, instance);
     if entry.to1 == 0 {
         return names::one_below(path, end);
     }
@@ -76,14 +76,14 @@ pub fn device_refusal(
     let mut here = plan.first;
     while k < plan.arcs {
         if device_hit(start, text, plan.slash, entry, instance, here) {
-            let values = sheet::values_place(start, here);
+            let values = sheetrecords::values_place(start, here);
             least = amounts::lesser_of(
                 least,
                 amounts::arc_refusal(out, values, rows, entry.group == ADDS),
             );
             some = true;
         }
-        here = sheet::next_arc(start, here);
+        here = sheetrecords::next_arc(start, here);
         k += 1;
     }
     if some {
@@ -110,10 +110,10 @@ pub fn device_write(
     let mut here = plan.first;
     while k < plan.arcs {
         if device_hit(start, text, plan.slash, entry, instance, here) {
-            let values = sheet::values_place(start, here);
+            let values = sheetrecords::values_place(start, here);
             amounts::write_arc(out, values, rows, entry.group == ADDS);
         }
-        here = sheet::next_arc(start, here);
+        here = sheetrecords::next_arc(start, here);
         k += 1;
     }
 }
@@ -130,7 +130,7 @@ pub fn arc_of(
     requires { ⌜ (ArcSearch (now start) (plan .arcs) (plan .first) (now marks)) × (inEnd (now start) instance ≤ length (now start)) ⌝ }
     ensures { λ r. ⌜ r ≡ arcOf (now (start .entry)) (now (text .entry)) (plan .slash) (plan .arcs) (plan .first) entry instance ⌝ }
 {
-    let path = sheet::instance_path(start, instance);
+    let path = sheetrecords::instance_path(start, instance);
     let name = names::part_of(text, entry.from1, entry.to1);
     let name2 = names::part_of(text, entry.from2, entry.to2);
     sheet::find_arc(
@@ -153,6 +153,6 @@ pub fn is_of(start: &[u8], instance: usize, celltype: &[u8]) -> bool
     requires { ⌜ inEnd (now start) instance ≤ length (now start) ⌝ }
     ensures { λ r. ⌜ r ≡ sameText (typeAt (now (start .entry)) instance) (now (celltype .entry)) ⌝ }
 {
-    let own = sheet::instance_type(start, instance);
+    let own = sheetrecords::instance_type(start, instance);
     names::same_text(own, celltype)
 }

@@ -100,7 +100,7 @@ fn mark_meant<'a>(
         ) {
             mark(bits, here);
         }
-        here = sheet::next_arc(start, here);
+        here = sheetrecords::next_arc(start, here);
         j += 1;
     }
 }

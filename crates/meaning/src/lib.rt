@@ -32,7 +32,7 @@ pub fn whom_of(start: &[u8], text: &[u8], plan: Plan, marks: &[u32; 4096], cell:
         Found::Nothing => Whom::Nobody(12),
         Found::At(instance) => {
             let celltype = names::part_of(text, cell.typefrom, cell.typeto);
-            if names::same_text(sheet::instance_type(start, instance), celltype) {
+            if names::same_text(sheetrecords::instance_type(start, instance), celltype) {
                 return Whom::One(instance);
             }
             Whom::Nobody(13)

@@ -48,10 +48,10 @@ fn meant_on<'a>(
 {
     let name = names::name_of(file, incoming, side, entry.from1, entry.to1);
     if entry.kind == DEVICE {
-        if sheet::arc_kind(start, arc) != IOPATH {
+        if sheetrecords::arc_kind(start, arc) != IOPATH {
             return false;
         }
-        let end = sheet::second_end(start, arc);
+        let end = sheetrecords::second_end(start, arc);
         if entry.to1 == 0 {
             return names::one_below(path, end);
         }
@@ -86,7 +86,7 @@ fn meant_in<'a>(
     requires { ⌜ (inEnd (now start) instance ≤ length (now start)) × (arNext (now start) arc ≤ length (now start)) ⌝ }
     ensures { λ r. ⌜ r ≡ meantIn (now (start .entry)) (pick side (now (incoming .entry)) (now (file .entry))) slash entry instance arc ⌝ }
 {
-    let path = sheet::instance_path(start, instance);
+    let path = sheetrecords::instance_path(start, instance);
     meant_on(start, file, incoming, side, slash, entry, path, arc)
 }
 
@@ -107,9 +107,9 @@ fn only_path(start: &[u8], entry: Entry, count: usize, arc: usize) -> &[u8]
     ensures { λ r. ⌜ now r ≡ onlyPath (now (start .entry)) entry count arc ⌝ }
 {
     if entry.kind != DEVICE {
-        return path_before(sheet::first_end(start, arc), count);
+        return path_before(sheetrecords::first_end(start, arc), count);
     }
-    let end = sheet::second_end(start, arc);
+    let end = sheetrecords::second_end(start, arc);
     if entry.to1 == 0 {
         return path_before(end, end.len() - names::last_component(end));
     }
@@ -140,7 +140,7 @@ fn meant_every<'a>(
     let found = sheet::find_instance(start, plan.instances, INSTANCES, places, path, false);
     match found {
         Found::Nothing => false,
-        Found::At(instance) => names::same_text(sheet::instance_type(start, instance), celltype),
+        Found::At(instance) => names::same_text(sheetrecords::instance_type(start, instance), celltype),
     }
 }
 

@@ -53,8 +53,8 @@ fn agreeing_ends(start: &[u8], arc: usize, name: &[u8]) -> usize
     requires { ⌜ arNext (now start) arc ≤ length (now start) ⌝ }
     ensures { λ r. ⌜ (r ≤ length (now (name .entry))) × Ends (now (start .entry)) arc (take r (now (name .entry))) ⌝ }
 {
-    let n = agreeing(name, sheet::first_end(start, arc));
-    agreeing(front_part(name, n), sheet::second_end(start, arc))
+    let n = agreeing(name, sheetrecords::first_end(start, arc));
+    agreeing(front_part(name, n), sheetrecords::second_end(start, arc))
 }
 
 // A name with which the ends of all seated arcs agree: the longest front part of the first one's first end.
@@ -65,7 +65,7 @@ pub fn common_front<'a>(start: &'a [u8], arcs: &[usize; 4096], count: usize) -> 
     if count == 0 {
         return &start[0..0];
     }
-    let name = sheet::first_end(start, arcs[0]);
+    let name = sheetrecords::first_end(start, arcs[0]);
     let mut n = name.len();
     let mut i = 0;
     while i < count {
@@ -161,7 +161,7 @@ pub fn is_wanted(start: &[u8], arcs: &[usize; 4096], count: usize, kind: u8) -> 
     }
     let mut i = 0;
     while i < count {
-        if fits(kind, sheet::arc_kind(start, arcs[i])) {
+        if fits(kind, sheetrecords::arc_kind(start, arcs[i])) {
             return true;
         }
         i += 1;

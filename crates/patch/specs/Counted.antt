@@ -7,7 +7,7 @@ use Rattle.grammar.specs.Machine.{Res}
 use Rattle.grammar.specs.Reading.{At}
 use Rattle.readcells.specs.declared.Answer.{Answer}
 use Rattle.readcells.specs.declared.Answer.the-variants as answer
-use Rattle.reader.specs.Files.{answerOf}
+use Rattle.readcells.specs.Files.{answerOf}
 use Rattle.patch.specs.declared.Counted.{Counted}
 use Rattle.patch.specs.Meaning.{Course, fileTable, cellTable, PatchIs}
 

@@ -21,10 +21,10 @@ use Rattle.grammar.specs.Outcome.{readFile, readCell}
 use Rattle.sound.specs.Sound.{total, cell-sound}
 use Rattle.sound.specs.One.{one-cell, cell-slash}
 use Rattle.tables.specs.Left.{cellsLeft, entriesLeft}
-use Rattle.reader.specs.Files.{FileIs, unitOf}
-use Rattle.reader.specs.Files as files
+use Rattle.readcells.specs.Files.{FileIs, unitOf}
+use Rattle.readcells.specs.Files as files
 use Rattle.readcells.specs.declared.Answer.the-variants as answer
-use Rattle.reader.specs.declared.FileRead.{FileRead}
+use Rattle.readcells.specs.declared.FileRead.{FileRead}
 use Rattle.sheetparts.specs.Form.{checkOf}
 use Rattle.sheetparts.specs.declared.SheetCheck.the-variants.{Good, Bad}
 use Rattle.sheet.specs.Same.{sameRecords}

@@ -213,7 +213,7 @@ fn patch_cell<'a>(
         (now (current .entry)) (now (current .exit)) (r .answer) × (r .cells ≡ count)
         × (r .incoming ≡ cellsRead (readCell (plan .slash) unit (length (now (cells2 .entry)) / 7) (length (now (entries2 .entry)) / 28) (now (incoming .entry)))) ⌝ }
 {
-    let read = reader::read_cell(incoming, plan.slash, unit, cells2, entries2);
+    let read = onecell::read_cell(incoming, plan.slash, unit, cells2, entries2);
     let answer = read.answer;
     match answer {
         Answer::Refused { number, place } => refused_after(number, place, true, count),

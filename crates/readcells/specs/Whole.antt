@@ -30,8 +30,9 @@ use Rattle.rules.specs.Contracts.{holds, InHand}
 use Rattle.rules.specs.Rules.{ahead, heads}
 use Rattle.headsteps.specs.Short.{short}
 use Rattle.headsteps.specs.Steps.{Takes}
-use Rattle.cells.specs.Cells.{after, BodyDone, BodyNot, filled, HeadRead}
-use Rattle.cells.specs.declared.CellHead.the-variants as ch
+use Rattle.cells.specs.Cells.{after, BodyDone, BodyNot, filled}
+use Rattle.cellhead.specs.Heads.{HeadRead}
+use Rattle.cellhead.specs.declared.CellHead.the-variants as ch
 use Rattle.tables.specs.Layout.{cellRows}
 use Rattle.tables.specs.Pastes.{put}
 use Rattle.readcells.specs.declared.More.{More}

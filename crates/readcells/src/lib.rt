@@ -1,8 +1,8 @@
 // The cells of a file, one after the other, into the lent tables.
 ghost use mathlib.Core.Path.{_≡_};
-ghost use mathlib.Core.Bool.{true};
+ghost use mathlib.Core.Bool.{true, false};
 ghost use Prim.Native.Nat.{_+_, _*_, _-_, _≤_};
-ghost use lib.ListN.{length};
+ghost use lib.ListN.{length, replicate};
 ghost use Rattle.classes.specs.Choice.{pick};
 ghost use Rattle.classes.specs.Classes.{classes};
 ghost use Rattle.rules.specs.Contracts.{InHand};
@@ -18,8 +18,8 @@ use grammar::Hand;
 use grammar::ReadBody;
 use values::wrong_at;
 use headsteps::take;
-use cells::CellHead;
-use cells::cell_head;
+use cellhead::CellHead;
+use cellhead::cell_head;
 use cells::read_body;
 use tables::put_cell;
 
@@ -196,4 +196,20 @@ pub fn read_cells(
             }
         }
     }
+}
+
+// A whole file: the answer; the divider, the time scale as a power of ten in femtoseconds, and where the header's texts stand (from .. to ..
+// of each, by the number that header_text takes; 0 .. 0 for a missing one).
+pub struct FileRead {
+    pub answer: Answer,
+    pub slash: bool,
+    pub unit: u8,
+    pub texts: [usize; 14],
+}
+
+// A refused file.
+pub fn refused(number: u8, place: usize) -> FileRead
+    ensures { λ r. ⌜ (r .answer ≡ Answer.Refused number place) × (r .slash ≡ false) × (r .unit ≡ 6) × (r .texts ≡ replicate 14 0) ⌝ }
+{
+    FileRead { answer: Answer::Refused { number: number, place: place }, slash: false, unit: 6, texts: [0usize; 14] }
 }

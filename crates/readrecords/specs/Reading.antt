@@ -11,8 +11,8 @@ use Rattle.grammar.specs.Machine.{Res, fine, bad}
 use Rattle.grammar.specs.Reading.{At}
 use Rattle.readcells.specs.declared.Answer.{Answer}
 use Rattle.readcells.specs.declared.Answer.the-variants as answer
-use Rattle.reader.specs.declared.FileRead.{FileRead}
-use Rattle.reader.specs.Files.{FileIs}
+use Rattle.readcells.specs.declared.FileRead.{FileRead}
+use Rattle.readcells.specs.Files.{FileIs}
 
 -- 'Reading is given room for so many cells and so many entries': a cell takes a row of the table and a record
 abbrev pub roomFor : ℕ → ℕ → ℕ

@@ -12,9 +12,9 @@ use Rattle.grammar.specs.Machine.{Res, fine, bad}
 use Rattle.grammar.specs.Reading.{At}
 use Rattle.sound.specs.Sound.{SoundLog}
 use Rattle.tables.specs.Layout.{cellRows, length-cells}
-use Rattle.reader.specs.declared.FileRead.{FileRead}
+use Rattle.readcells.specs.declared.FileRead.{FileRead}
 use Rattle.tables.specs.Left.{cellsLeft}
-use Rattle.reader.specs.Files.{FileIs, answerOf}
+use Rattle.readcells.specs.Files.{FileIs, answerOf}
 use Rattle.applying.specs.Rows.{cell-is}
 use Rattle.meaning.specs.Cells.{CellsAre}
 use Rattle.meaning.specs.CellList.{each-at}

@@ -6,7 +6,7 @@ ghost use Rattle.grammar.specs.Outcome.{readFile, readCell};
 ghost use Rattle.readrecords.specs.Reading.{roomFor, countOf, WithinIs, RecordsAre};
 use grammar::Cell;
 use readcells::Answer;
-use reader::FileRead;
+use readcells::FileRead;
 
 // The core's reader, where so many cells have a record: it is lent the part of the table that has a row for each.
 fn read_within(text: &[u8], table: &mut [u64], entries: &mut [u64], room: usize) -> FileRead
@@ -68,12 +68,12 @@ fn read_cell_within(
         (now (table .entry)) (now (table .exit)) (now (entries .entry)) (now (entries .exit)) r ⌝ }
 {
     if room < table.len() / 7 {
-        return reader::read_cell(text, slash, unit, &mut table[..7 * room], entries);
+        return onecell::read_cell(text, slash, unit, &mut table[..7 * room], entries);
     }
-    reader::read_cell(text, slash, unit, table, entries)
+    onecell::read_cell(text, slash, unit, table, entries)
 }
 
-// Reads a text that is one cell as reader::read_cell does, and the cell into a record too, with room and what is left as read_file_records has it.
+// Reads a text that is one cell as onecell::read_cell does, and the cell into a record too, with room and what is left as read_file_records has it.
 pub fn read_cell_records(
     text: &[u8],
     slash: bool,

@@ -151,7 +151,7 @@ pub fn load_seats(start: &[u8], arcs: &[usize; 4096], count: usize, states: &mut
     let mut i = 0;
     while i < count {
         let mut state = [0u8; 144];
-        oneseat::load(start, sheet::values_place(start, arcs[i]), &mut state);
+        oneseat::load(start, sheetrecords::values_place(start, arcs[i]), &mut state);
         oneseat::store(states, 144 * i, &state);
         i += 1;
     }
@@ -176,7 +176,7 @@ pub fn write_seats(
         oneseat::load(flags, 18 * i, &mut mask);
         let mut state = [0u8; 144];
         oneseat::load(states, 144 * i, &mut state);
-        swaparcs::write_back(current, sheet::values_place(start, arcs[i]), &state, &mask);
+        swaparcs::write_back(current, sheetrecords::values_place(start, arcs[i]), &state, &mask);
         i += 1;
     }
 }

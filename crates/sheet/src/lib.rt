@@ -5,14 +5,11 @@ ghost use mathlib.Core.Bool.{true, false};
 ghost use Prim.Native.Nat.{_+_, _*_, _/_, _-_, _≤_, _<_};
 ghost use lib.Dec.{ltb, eqb};
 ghost use lib.ListN.{length};
-ghost use lib.Seq.{paste};
-ghost use mir.Syntax.{w64};
-ghost use mir.Val.{toZ, ofZ};
 ghost use Rattle.classes.specs.Choice.{pick};
-ghost use Rattle.wire.specs.Wire.{part, be64, beBytes};
+ghost use Rattle.wire.specs.Wire.{part};
 ghost use Rattle.names.specs.Order.{cmp, sameText};
 ghost use Rattle.names.specs.Name.{canon};
-ghost use Rattle.sheetparts.specs.Form.{keyAt, valuesAt, pathAt, typeAt, cmpKey};
+ghost use Rattle.sheetparts.specs.Form.{keyAt, pathAt, cmpKey};
 ghost use Rattle.sheetlaws.specs.Sheet.{arNext, inEnd, nth, place};
 ghost use Rattle.sheet.specs.Search.{strideOf, putMark, marked, NotBeyond};
 ghost use Rattle.sheet.specs.Find.{secondWanted, wanted, findArc, findInstance, ArcsGood, InsGood, ArcSearch, InstanceSearch};
@@ -31,97 +28,7 @@ const SAME: u8 = 1;
 
 // The instance at a place.
 
-pub fn next_instance(sheet: &[u8], place: usize) -> usize
-    requires { ⌜ inEnd (now sheet) place ≤ length (now sheet) ⌝ }
-    ensures { λ r. ⌜ r ≡ inEnd (now (sheet .entry)) place ⌝ }
-{
-    let m = sheetparts::path_len(sheet, place);
-    let n = sheetparts::type_len(sheet, place);
-    place + 6 + m + n
-}
-
-pub fn instance_path(sheet: &[u8], place: usize) -> &[u8]
-    requires { ⌜ inEnd (now sheet) place ≤ length (now sheet) ⌝ }
-    ensures { λ r. ⌜ now r ≡ pathAt (now (sheet .entry)) place ⌝ }
-{
-    let m = sheetparts::path_len(sheet, place);
-    let start = place + 4;
-    let end = start + m;
-    &sheet[start..end]
-}
-
-pub fn instance_type(sheet: &[u8], place: usize) -> &[u8]
-    requires { ⌜ inEnd (now sheet) place ≤ length (now sheet) ⌝ }
-    ensures { λ r. ⌜ now r ≡ typeAt (now (sheet .entry)) place ⌝ }
-{
-    let m = sheetparts::path_len(sheet, place);
-    let n = sheetparts::type_len(sheet, place);
-    let start = place + 6 + m;
-    let end = start + n;
-    &sheet[start..end]
-}
-
 // The arc at a place.
-
-pub fn arc_kind(sheet: &[u8], place: usize) -> u8
-    requires { ⌜ arNext (now sheet) place ≤ length (now sheet) ⌝ }
-    ensures { λ r. ⌜ r ≡ keyAt (now (sheet .entry)) place .kind ⌝ }
-{
-    sheet[place + 2]
-}
-
-pub fn arc_edge(sheet: &[u8], place: usize) -> u8
-    requires { ⌜ arNext (now sheet) place ≤ length (now sheet) ⌝ }
-    ensures { λ r. ⌜ r ≡ keyAt (now (sheet .entry)) place .edge ⌝ }
-{
-    sheet[place + 3]
-}
-
-pub fn arc_edge2(sheet: &[u8], place: usize) -> u8
-    requires { ⌜ arNext (now sheet) place ≤ length (now sheet) ⌝ }
-    ensures { λ r. ⌜ r ≡ keyAt (now (sheet .entry)) place .edge2 ⌝ }
-{
-    let m = sheetparts::first_len(sheet, place);
-    sheet[place + 6 + m]
-}
-
-pub fn first_end(sheet: &[u8], place: usize) -> &[u8]
-    requires { ⌜ arNext (now sheet) place ≤ length (now sheet) ⌝ }
-    ensures { λ r. ⌜ now r ≡ keyAt (now (sheet .entry)) place .first ⌝ }
-{
-    let m = sheetparts::first_len(sheet, place);
-    let start = place + 6;
-    let end = start + m;
-    &sheet[start..end]
-}
-
-pub fn second_end(sheet: &[u8], place: usize) -> &[u8]
-    requires { ⌜ arNext (now sheet) place ≤ length (now sheet) ⌝ }
-    ensures { λ r. ⌜ now r ≡ keyAt (now (sheet .entry)) place .second ⌝ }
-{
-    let m = sheetparts::first_len(sheet, place);
-    let n = sheetparts::second_len(sheet, place);
-    let start = place + 9 + m;
-    let end = start + n;
-    &sheet[start..end]
-}
-
-// Where its values start.
-pub fn values_place(sheet: &[u8], place: usize) -> usize
-    requires { ⌜ arNext (now sheet) place ≤ length (now sheet) ⌝ }
-    ensures { λ r. ⌜ r ≡ valuesAt (now (sheet .entry)) place ⌝ }
-{
-    let m = sheetparts::first_len(sheet, place);
-    let n = sheetparts::second_len(sheet, place);
-    place + 9 + m + n
-}
-
-pub fn next_arc(sheet: &[u8], place: usize) -> usize
-    requires { ⌜ arNext (now sheet) place ≤ length (now sheet) ⌝ }
-    ensures { λ r. ⌜ r ≡ arNext (now (sheet .entry)) place ⌝ }
-{
-    values_place(sheet, place) + 144
-}
 
 // Landmarks: the places of every so many records, in a table that is made once and lent to each search.
 
@@ -152,7 +59,7 @@ pub fn mark_arcs(sheet: &[u8], count: usize, first: usize, marks: &mut [u32; 409
     let mut here = first;
     while k < count {
         put_mark(marks, k, stride, here as u32);
-        here = next_arc(sheet, here);
+        here = sheetrecords::next_arc(sheet, here);
         k += 1;
     }
 }
@@ -166,7 +73,7 @@ pub fn mark_instances(sheet: &[u8], count: usize, first: usize, marks: &mut [u32
     let mut here = first;
     while k < count {
         put_mark(marks, k, stride, here as u32);
-        here = next_instance(sheet, here);
+        here = sheetrecords::next_instance(sheet, here);
         k += 1;
     }
 }
@@ -182,7 +89,7 @@ fn second_vs(sheet: &[u8], place: usize, kind: u8, path: &[u8], name: &[u8], sla
     requires { ⌜ arNext (now sheet) place ≤ length (now sheet) ⌝ }
     ensures { λ r. ⌜ r ≡ cmp (keyAt (now (sheet .entry)) place .second) (secondWanted slash kind (now (path .entry)) (now (name .entry))) ⌝ }
 {
-    let end = second_end(sheet, place);
+    let end = sheetrecords::second_end(sheet, place);
     if sheetparts::one_end(kind) {
         if end.len() == 0 {
             return SAME;
@@ -208,15 +115,15 @@ pub fn key_vs(
     ensures { λ r. ⌜ r ≡ cmpKey (keyAt (now (sheet .entry)) place)
         (wanted slash kind edge edge2 (now (path .entry)) (now (name .entry)) (now (name2 .entry))) ⌝ }
 {
-    let by_kind = names::cmp_num(arc_kind(sheet, place), kind);
+    let by_kind = names::cmp_num(sheetrecords::arc_kind(sheet, place), kind);
     if by_kind != SAME {
         return by_kind;
     }
-    let by_first = names::cmp_full(first_end(sheet, place), path, name, slash);
+    let by_first = names::cmp_full(sheetrecords::first_end(sheet, place), path, name, slash);
     if by_first != SAME {
         return by_first;
     }
-    let by_edge = names::cmp_num(arc_edge(sheet, place), edge);
+    let by_edge = names::cmp_num(sheetrecords::arc_edge(sheet, place), edge);
     if by_edge != SAME {
         return by_edge;
     }
@@ -224,7 +131,7 @@ pub fn key_vs(
     if by_second != SAME {
         return by_second;
     }
-    names::cmp_num(arc_edge2(sheet, place), edge2)
+    names::cmp_num(sheetrecords::arc_edge2(sheet, place), edge2)
 }
 
 // The arc with the wanted key among the arcs from a place on, one by one up to the first that is greater.
@@ -254,7 +161,7 @@ fn search_arc(
         if order == AFTER {
             return Found::Nothing;
         }
-        here = next_arc(sheet, here);
+        here = sheetrecords::next_arc(sheet, here);
         k += 1;
     }
     Found::Nothing
@@ -387,7 +294,7 @@ fn path_vs(sheet: &[u8], place: usize, path: &[u8], slash: bool) -> u8
     requires { ⌜ inEnd (now sheet) place ≤ length (now sheet) ⌝ }
     ensures { λ r. ⌜ r ≡ cmp (pathAt (now (sheet .entry)) place) (canon slash (now (path .entry))) ⌝ }
 {
-    names::cmp_written(instance_path(sheet, place), path, slash)
+    names::cmp_written(sheetrecords::instance_path(sheet, place), path, slash)
 }
 
 // The instance with this path among the instances from a place on, one by one up to the first that is greater.
@@ -405,7 +312,7 @@ fn search_instance(sheet: &[u8], count: usize, first: usize, path: &[u8], slash:
         if order == AFTER {
             return Found::Nothing;
         }
-        here = next_instance(sheet, here);
+        here = sheetrecords::next_instance(sheet, here);
         k += 1;
     }
     Found::Nothing
@@ -483,20 +390,6 @@ pub fn find_instance(
 
 // One of the 18 values that start at a place, as `values_place` gives it: of this sheet or of another with the same records.
 
-pub fn value_get(sheet: &[u8], values: usize, slot: usize) -> i64
-    requires { ⌜ (values + 144 ≤ length (now sheet)) × (slot < 18) ⌝ }
-    ensures { λ r. ⌜ r ≡ toZ w64 (be64 (now (sheet .entry)) (values + 8 * slot)) ⌝ }
-{
-    wire::read_i64(sheet, values + 8 * slot)
-}
-
-pub fn value_set(sheet: &mut [u8], values: usize, slot: usize, value: i64)
-    requires { ⌜ (values + 144 ≤ length (now sheet)) × (slot < 18) ⌝ }
-    ensures { λ _. ⌜ now (sheet .exit) ≡ paste (now (sheet .entry)) (values + 8 * slot) (beBytes (ofZ w64 value)) 8 ⌝ }
-{
-    wire::write_i64(sheet, values + 8 * slot, value);
-}
-
 // Two sheets.
 
 // Whether they have the same bytes from start up to end.
@@ -514,7 +407,7 @@ fn same_keys(sheet: &[u8], other: &[u8], count: usize, first: usize) -> bool
     let mut k = 0;
     let mut here = first;
     while k < count {
-        let end = values_place(sheet, here);
+        let end = sheetrecords::values_place(sheet, here);
         if !same_part(sheet, other, here, end) {
             return false;
         }

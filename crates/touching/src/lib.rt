@@ -40,8 +40,8 @@ pub fn may_touch<'a>(
     ensures { λ r. ⌜ r ≡ mayTouch (now (start .entry)) (pick side (now (incoming .entry)) (now (file .entry))) slash from to arc ⌝ }
 {
     let path = names::name_of(file, incoming, side, from, to);
-    if names::cmp_front_written(sheet::first_end(start, arc), path, slash) == SAME {
+    if names::cmp_front_written(sheetrecords::first_end(start, arc), path, slash) == SAME {
         return true;
     }
-    names::cmp_front_written(sheet::second_end(start, arc), path, slash) == SAME
+    names::cmp_front_written(sheetrecords::second_end(start, arc), path, slash) == SAME
 }

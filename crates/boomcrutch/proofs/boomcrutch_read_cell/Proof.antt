@@ -5,7 +5,7 @@ use lib.ListN.{length}
 use denote.Ref.{now}
 use borrow.Author.Needs.{needs}
 use Prim.Native.Nat.{_/_}
-use Rattle.boomcrutch.specs.Exports.{same-left, no-divider, no-scale, cell-by}
+use Rattle.answers.specs.Exports.{same-left, no-divider, no-scale, cell-by}
 use Rattle.boomcrutch.proofs.boomcrutch_read_cell.Statement.{statement}
 use Rattle.boomcrutch.proofs.boomcrutch_read_cell.Tie as tie
 

@@ -1,7 +1,7 @@
 -- `boomcrutch::boomcrutch_read_file` meets its contract: the reader's.
 -- Assumes nothing.
 use borrow.Author.Needs.{needs}
-use Rattle.boomcrutch.specs.Exports.{same-left}
+use Rattle.answers.specs.Exports.{same-left}
 use Rattle.boomcrutch.proofs.boomcrutch_read_file.Statement.{statement}
 use Rattle.boomcrutch.proofs.boomcrutch_read_file.Tie as tie
 

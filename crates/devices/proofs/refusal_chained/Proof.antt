@@ -2,7 +2,7 @@
 -- Assumes nothing.
 use Rattle.entryarcs.specs.Turns.{some-with, some-without, least-with, least-without, some-same, least-same, hits, refuses, hit-is}
 use Rattle.applying.specs.Bytes.{someOf, leastOf, deviceRefusal}
-use Rattle.devices.specs.ByPath.{other-end}
+use Rattle.deviceport.specs.ByPath.{other-end}
 use Rattle.byend.specs.Ends.{endPlace, endBucket}
 use Rattle.bytype.specs.Chains.{OnChain, chain-head, chain-next, skip-head, skip-next}
 use Rattle.bytype.specs.ByType.{bucketOf}

@@ -2,7 +2,7 @@
 -- Assumes nothing.
 use Rattle.entryarcs.specs.Turns.{written-with, written-without, written-same, hits, writes, hit-is}
 use Rattle.applying.specs.Bytes.{writtenOf, deviceWritten}
-use Rattle.devices.specs.ByPath.{other-end}
+use Rattle.deviceport.specs.ByPath.{other-end}
 use Rattle.byend.specs.Ends.{endPlace, endBucket}
 use Rattle.bytype.specs.Chains.{OnChain, chain-head, chain-next, skip-head, skip-next}
 use Rattle.bytype.specs.ByType.{bucketOf}

@@ -10,9 +10,9 @@ use Rattle.grammar.specs.Reading.{At}
 use Rattle.tables.specs.Layout.{cellRows, entryRows, length-cells, length-entries}
 use Rattle.readcells.specs.declared.Answer.{Answer}
 use Rattle.readcells.specs.declared.Answer.the-variants.{Read, Refused}
-use Rattle.reader.specs.declared.FileRead.{FileRead}
+use Rattle.readcells.specs.declared.FileRead.{FileRead}
 use Rattle.tables.specs.Left.{cellsLeft, entriesLeft}
-use Rattle.reader.specs.Files.{FileIs, answerOf}
+use Rattle.readcells.specs.Files.{FileIs, answerOf}
 use borrow.Author.Needs.{needs}
 use Rattle.listing.proofs.list.Statement.{statement}
 use Rattle.listing.proofs.list.Tie as tie

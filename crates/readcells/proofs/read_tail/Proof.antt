@@ -3,8 +3,8 @@
 use mathlib.Core.Path.{refl, _∙_}
 use denote.Ref.{now}
 use borrow.Author.Needs.{needs}
-use Rattle.cells.specs.declared.CellHead.the-variants as ch
-use Rattle.cells.specs.Cells.{HeadRead}
+use Rattle.cellhead.specs.declared.CellHead.the-variants as ch
+use Rattle.cellhead.specs.Heads.{HeadRead}
 use Rattle.readcells.specs.Whole.{cellAt, tail-head-not, tail-body-not, tail-done}
 use Rattle.readcells.specs.Left.{cells-one}
 use Rattle.readcells.proofs.read_tail.Statement.{statement}

@@ -5,7 +5,7 @@ use lib.ListN.{length}
 use denote.Ref.{now}
 use borrow.Author.Needs.{needs}
 use Prim.Native.Nat.{_/_}
-use Rattle.reader.specs.Files.{too-long, short-enough, file-refused, file-read}
+use Rattle.readcells.specs.Files.{too-long, short-enough, file-refused, file-read}
 use Rattle.reader.proofs.read_file.Statement.{statement}
 use Rattle.reader.proofs.read_file.Tie as tie
 
