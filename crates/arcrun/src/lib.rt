@@ -1,5 +1,5 @@
-// One arc and the entries of two texts, the old file and the incoming cell: which of its slots they touch, and its 18 values run through them.
-// `side` tells which text a table belongs to: false the file, true the incoming cell.
+// One arc and the entries of two texts, the old file and the incoming cell: its 18 values run through them. `side` tells which text a table
+// belongs to: false the file, true the incoming cell.
 ghost use mathlib.Core.Path.{_≡_};
 ghost use mathlib.Core.List.{[], _∷_};
 ghost use Prim.Native.Nat.{_+_, _≤_, _<_};

@@ -1,4 +1,4 @@
-// What stands at the head of a cell: its type and its instance.
+// The reader of what stands at the head of a cell: its type and its instance.
 ghost use mathlib.Core.Path.{_≡_};
 ghost use Prim.Native.Nat.{_+_, _-_, _≤_};
 ghost use lib.ListN.{length};

@@ -1,5 +1,4 @@
-// Which arcs the entries of a cell mean: each entry finds its arc by search and marks it in a table, and the marked arcs get seats in the sheet's
-// order, up to 4,096 at a time. There is a byte for each 128 bytes of the longest sheet, so that no two arcs share one.
+// The marked arcs get seats in the sheet's order, up to 4,096 at a time.
 ghost use mathlib.Core.Path.{_≡_};
 ghost use Prim.Native.Nat.{_+_, _≤_, _<_};
 ghost use lib.ListN.{length};

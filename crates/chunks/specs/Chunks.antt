@@ -25,7 +25,7 @@ use Rattle.marking.specs.Parts.{partNo}
 use Rattle.swaparcs.specs.declared.Swap.{Swap}
 use Rattle.swaparcs.specs.Swap.{news, touched, LeastIs}
 use Rattle.swaparcs.specs.Loops.{betterOf, isFault, SwapReady, ArcsRan, ArcsWritten}
-use Rattle.swaparcs.specs.ArcLaws.{better-is, none-set, flags-both, ArcsSoFar, arcs-more, arcs-pass, WrittenSoFar, written-more, written-pass}
+use Rattle.swaparcs.specs.ArcLaws.{better-is, none-set, flags-both, ArcsSoFar, arcs-more, arcs-pass, arcs-end, WrittenSoFar, written-more, written-pass, written-end}
 use Rattle.marking.specs.Choosing.{markedAt, Chose}
 use Rattle.marking.specs.Chosen.{chosen, chosen-in, chosen-has}
 use Rattle.seating.specs.Seating as seating
@@ -224,6 +224,15 @@ module _ (b : List ℕ) (n m f : ℕ) (file incoming : List ℕ) (slash : Bool) 
         rw (chose .1, chose .5)
         (chunk-written b n m f file incoming slash cells entries cells2 entries2 swap leaver type newcomer type2 (markedAt b f bits) from (chose .0) arcs flags states
         ready covers inside sat current o so r through)
+
+    -- a part that goes up to the last arc
+    pub last-judged : (own best end : Least) → next ≡ m → end ≡ betterOf best r
+        → ArcsSoFar b n m f file incoming slash cells entries cells2 entries2 swap leaver type newcomer type2 own from best → ArcsRan b n m f file incoming slash cells entries cells2 entries2 swap leaver type newcomer type2 own end
+    last-judged own best end e a so = arcs-end b n m f file incoming slash cells entries cells2 entries2 swap leaver type newcomer type2 own end (rw (e, ← a) at (part-judged own best so))
+
+    pub last-written : (current o end : List ℕ) → next ≡ m → end ≡ backs b arcs flags states o count
+        → WrittenSoFar b n m f file incoming slash cells entries cells2 entries2 swap leaver type newcomer type2 current from o → ArcsWritten b n m f file incoming slash cells entries cells2 entries2 swap leaver type newcomer type2 current end
+    last-written current o end e a so = written-end b n m f file incoming slash cells entries cells2 entries2 swap leaver type newcomer type2 current end (rw (e, ← a) at (part-written current o so))
 
   -- all were judged, and all are written, or none is
   module _ (own : Least) (current : List ℕ) where

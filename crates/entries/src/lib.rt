@@ -1,4 +1,4 @@
-// The readers of values, ends and entries: recursive descent over the tokens of a text. Each contract is an equation between readings
+// The readers of entries: recursive descent over the tokens of a text. Each contract is an equation between readings
 // (rules/specs/Contracts.antt). Every reader takes the text, the table of byte classes, and the place from which to read.
 ghost use mathlib.Core.Path.{_≡_};
 ghost use mathlib.Core.Bool.{true, false};

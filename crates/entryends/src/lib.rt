@@ -1,4 +1,4 @@
-// The ends of an entry: ports, with an edge or without.
+// The readers of an entry's ends: ports, with an edge or without.
 ghost use mathlib.Core.Path.{_≡_};
 ghost use mathlib.Core.Bool.{true};
 ghost use Prim.Native.Nat.{_-_, _≤_, _<_};

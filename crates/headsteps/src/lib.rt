@@ -1,4 +1,5 @@
-// The parts of a header: brackets, keywords, quoted texts, triples of numbers, the divider.
+// The readers of a header's parts: brackets, keywords, quoted texts, triples of numbers, the divider. Each contract is an equation between
+// readings (specs/Steps.antt).
 ghost use mathlib.Core.Path.{_≡_};
 ghost use mathlib.Core.Bool.{true, false};
 ghost use mathlib.Core.List.{[], _∷_};

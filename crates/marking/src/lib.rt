@@ -1,4 +1,5 @@
-// The arcs that the entries of a cell mean, marked: the arcs in question.
+// Which arcs the entries of a cell mean: each entry finds its arc by search and marks it in a table. There is a byte for each 128 bytes of the
+// longest sheet, so that no two arcs share one.
 ghost use mathlib.Core.Path.{_≡_};
 ghost use Prim.Native.Nat.{_+_, _*_, _/_, _%_, _≤_, _<_};
 ghost use lib.ListN.{length, set};

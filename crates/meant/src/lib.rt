@@ -1,4 +1,5 @@
-// Whether an entry means an arc, asked of the arc.
+// Whether an entry of one of two texts, the old file and the incoming cell, means an arc: asked of the arc. `side` tells which text a table
+// belongs to: false the file, true the incoming cell.
 ghost use mathlib.Core.Path.{_≡_};
 ghost use Prim.Native.Nat.{_≤_, _<_};
 ghost use lib.ListN.{length};

@@ -1,4 +1,4 @@
-// Names of instances and of ports: their shape, their order, and where their bytes stand (document 01, 'Bytes and words').
+// Names of instances and of ports: their canonical form, their order, and where their bytes stand (document 01, 'Bytes and words').
 ghost use mathlib.Core.Path.{_≡_};
 ghost use mathlib.Core.Bool.{false};
 ghost use Prim.Native.Nat.{_≤_};

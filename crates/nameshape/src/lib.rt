@@ -1,4 +1,4 @@
-// The shape of names and quoted texts.
+// The shape of names and of quoted texts (document 01, 'Bytes and words').
 ghost use mathlib.Core.Path.{_≡_};
 ghost use mathlib.Core.Bool.{true, false};
 ghost use Prim.Native.Nat.{_≤_};

@@ -1,4 +1,4 @@
-// The shape of numbers, and their digits.
+// The shape of a number, and what its digits make (document 01, 'Numbers and times').
 ghost use mathlib.Core.Path.{_≡_};
 ghost use Prim.Native.Nat.{_+_, _-_, _*_, _≤_, _<_, min};
 ghost use lib.Dec.{eqb};

@@ -1,4 +1,4 @@
-// A text that is one cell.
+// The reader of a text that is one cell, as a re-issued one comes.
 ghost use mathlib.Core.Path.{_≡_};
 ghost use mathlib.Core.Bool.{true, false};
 ghost use Prim.Native.Nat.{_*_, _-_, _/_, _≤_, _<_};

@@ -1,4 +1,4 @@
-// One seat: its flags and values copied out, run through an entry, and copied back.
+// One seat: its 18 flags and 144 bytes of values copied out of the tables, run through an entry, and copied back.
 ghost use mathlib.Core.Path.{_≡_};
 ghost use Prim.Native.Nat.{_+_, _*_, _≤_, _<_};
 ghost use lib.ListN.{length, take, drop};

@@ -1,4 +1,4 @@
-// The cell lists of a patch lent as records: a thin function above the core's patch, as crate records has them of reading and annotating.
+// The cell lists of a patch lent as records: a thin function above the core's patch.
 ghost use Prim.Native.Nat.{_/_};
 ghost use lib.ListN.{length};
 ghost use Rattle.readrecords.specs.Reading.{roomFor};

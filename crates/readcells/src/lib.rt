@@ -1,4 +1,4 @@
-// The cells of a file, one after the other, into the lent tables.
+// The cells of a text, one after the other, into the lent tables; and what a reading answers.
 ghost use mathlib.Core.Path.{_≡_};
 ghost use mathlib.Core.Bool.{true, false};
 ghost use Prim.Native.Nat.{_+_, _*_, _-_, _≤_};

@@ -1,4 +1,4 @@
-// The cell list lent as records: thin functions over a slice of cells, above the tables of words that the core fills.
+// The annotator, with the cell list lent as records too: a thin function over a slice of cells, above the tables of words that the core fills.
 ghost use mathlib.Core.Path.{_≡_};
 ghost use Prim.Native.Nat.{_*_, _/_, _<_};
 ghost use lib.ListN.{length};

@@ -1,5 +1,5 @@
 // The arcs with a touched slot, seated in tables of their own, run through the cells of a file together: each cell is looked at once for all of
-// them, and one that can touch none is passed by. Seat number i has the place of an arc, 18 flags and 144 bytes of values.
+// them, and one that can touch none is passed by.
 ghost use mathlib.Core.Path.{_≡_};
 ghost use mathlib.Core.Bool.{false};
 ghost use Prim.Native.Nat.{_+_, _*_, _≤_, _<_};

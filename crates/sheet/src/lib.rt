@@ -1,5 +1,5 @@
-// Use of a timing sheet that was checked: its records one by one, the search for an instance and for an arc, its values, and whether two
-// sheets have the same records (document 01, 'The timing sheet', 'Annotating', refusal 18).
+// Use of a timing sheet that was checked: the search for an instance and for an arc, and whether two sheets have the same records
+// (document 01, 'The timing sheet', 'Annotating', refusal 18).
 ghost use mathlib.Core.Path.{_≡_};
 ghost use mathlib.Core.Bool.{true, false};
 ghost use Prim.Native.Nat.{_+_, _*_, _/_, _-_, _≤_, _<_};

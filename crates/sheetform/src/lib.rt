@@ -1,4 +1,4 @@
-// The form of a timing sheet, field by field (document 01, 'The timing sheet').
+// The check of a timing sheet, record by record (document 01, 'The timing sheet').
 ghost use mathlib.Core.Path.{_≡_};
 ghost use Prim.Native.Nat.{_+_, _≤_};
 ghost use lib.ListN.{length};

@@ -1,4 +1,4 @@
-// The form of a timing sheet, and its smallest parts: marks, lengths, names, values.
+// The form of a timing sheet (document 01, 'The timing sheet'), and the check of its smallest parts: marks, lengths, names, values.
 ghost use mathlib.Core.Path.{_≡_};
 ghost use Prim.Native.Nat.{_+_, _≤_};
 ghost use lib.ListN.{length, getD};

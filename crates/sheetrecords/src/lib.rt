@@ -1,4 +1,4 @@
-// The records of a timing sheet: the fields and values of an instance or an arc at a place.
+// The records of a timing sheet that was checked: the fields and the values of an instance or an arc at a place.
 ghost use mathlib.Core.Path.{_≡_};
 ghost use Prim.Native.Nat.{_+_, _*_, _-_, _≤_, _<_};
 ghost use lib.ListN.{length};

@@ -1,5 +1,4 @@
-// A part of the arcs that a swap may touch, up to 4,096, each with its seat in tables: they are marked, their slots are flagged, their values go through the
-// new file together, and are written.
+// A part of the arcs that a swap may touch, up to 4,096, each with its seat in tables: their values go through the new file together.
 ghost use mathlib.Core.Path.{_≡_};
 ghost use Prim.Native.Nat.{_≤_};
 ghost use lib.ListN.{length};

@@ -1,5 +1,5 @@
-// Swapping one cell of a file that was read: the arcs that it may touch have their seats in tables, up to 4,096 at a time, and go through the new file
-// together (document 01, 'Patching'). First decide, then write: all are judged before the first value is written.
+// Swapping one cell of a file that was read: the arcs that it may touch, part by part (document 01, 'Patching'). First decide, then write: all
+// are judged before the first value is written.
 ghost use mathlib.Core.Path.{_≡_};
 ghost use lib.ListN.{length};
 ghost use Rattle.seating.specs.Seating.{SwapFits, MarksCover, SwapSeated};

@@ -1,4 +1,4 @@
-// A number's shape, and its exact value in femtoseconds (document 01, 'Numbers and times').
+// A number's exact value in femtoseconds (document 01, 'Numbers and times').
 ghost use mathlib.Core.Path.{_≡_};
 ghost use Prim.Native.Nat.{_+_, _-_, _*_, _^_, _≤_, _<_, min};
 ghost use lib.ListN.{length, drop};

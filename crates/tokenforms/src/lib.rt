@@ -1,4 +1,4 @@
-// The tokens: which one stands at a place.
+// The forms of tokens (document 01, 'Bytes and words'): quoted texts, comments, and which token stands at a place.
 ghost use mathlib.Core.Path.{_≡_};
 ghost use Prim.Native.Nat.{_+_, _≤_, _<_};
 ghost use lib.ListN.{length, drop};

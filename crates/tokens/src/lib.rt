@@ -1,4 +1,4 @@
-// The tokens of a text (document 01, 'Bytes and words').
+// The tokens of a text, one after the other (document 01, 'Bytes and words').
 ghost use mathlib.Core.Path.{_≡_};
 ghost use Prim.Native.Nat.{_+_, _≤_, _<_};
 ghost use lib.ListN.{length};

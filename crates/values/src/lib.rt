@@ -1,4 +1,5 @@
-// The values of an entry: numbers, triples, lists of them, empty brackets.
+// The readers of values: numbers, triples, lists of them, empty brackets. Each contract is an equation between readings
+// (rules/specs/Contracts.antt). Every reader takes the text, the table of byte classes, and the place from which to read.
 ghost use mathlib.Core.Path.{_≡_};
 ghost use mathlib.Core.Bool.{true, false};
 ghost use Prim.Native.Nat.{_+_, _-_, _≤_, _<_};

@@ -10,8 +10,8 @@ use borrow.Author.Tests.{not-true, not-false}
 use Rattle.sheetlaws.specs.Sheet.{nth}
 use Rattle.findseat.specs.Laws.{order-there}
 use Rattle.touchseats.specs.Laws.{chosen-order}
-use Rattle.swaparcs.specs.ArcLaws.{arcs-none, arcs-end, written-none, written-end}
-use Rattle.chunks.specs.Chunks.{part-judged, part-written, swapped-done, swapped-stop}
+use Rattle.swaparcs.specs.ArcLaws.{arcs-none, written-none}
+use Rattle.chunks.specs.Chunks.{last-judged, last-written, swapped-done, swapped-stop}
 use Rattle.swapseats.proofs.swap_seated.Statement.{statement}
 use Rattle.swapseats.proofs.swap_seated.Tie as tie
 
@@ -108,8 +108,8 @@ returns-2 c =
     let if2 = c .before .before .before .before .before .before .before .if2 in
     let write-seats = c .before .before .write-seats in
     let e : choose .result .next ≡ args .plan .arcs = omega (arith, choose .ensures .1 .2, if1 .left) in
-    let judged = arcs-end (now (args .start)) (args .plan .instances) (args .plan .arcs) (args .plan .first) (now (args .file)) (now (args .incoming)) (args .plan .slash) (now (args .cells)) (now (args .entries)) (now (args .cells2)) (now (args .entries2)) (args .swap) (args .leaver) (now (args .leavertype)) (args .comer) (now (args .comertype)) (args .own) (better .result) (rw (e, ← better .ensures) at (part-judged (now (args .start)) (args .plan .instances) (args .plan .arcs) (args .plan .first) (now (args .file)) (now (args .incoming)) (args .plan .slash) (now (args .cells)) (now (args .entries)) (now (args .cells2)) (now (args .entries2)) (args .swap) (args .leaver) (now (args .leavertype)) (args .comer) (now (args .comertype)) (pre .0 .ready) (mark-both .last .1 .1 .1 .1 .1 .1 .1 .1 .1 .1 .1 .1 .1 .1 .1 .0) (mark-both .ensures .1) 0 (choose .result .count) (choose .result .next) (choose .result .place) (choose .last .1 .1 .1 .1 .1 .0) (run-chunk .last .1 .1 .1 .1 .1 .1 .1 .1 .1 .1 .1 .1 .1 .1 .1 .1 .1 .0) (run-chunk .last .1 .1 .1 .1 .1 .1 .1 .1 .1 .1 .1 .1 .1 .1 .1 .1 .1 .1 .0) (choose .ensures .1) (run-chunk .ensures .2) (run-chunk .result) (run-chunk .ensures .3) (args .own) (args .own) (arcs-none (now (args .start)) (args .plan .instances) (args .plan .arcs) (args .plan .first) (now (args .file)) (now (args .incoming)) (args .plan .slash) (now (args .cells)) (now (args .entries)) (now (args .cells2)) (now (args .entries2)) (args .swap) (args .leaver) (now (args .leavertype)) (args .comer) (now (args .comertype)) (args .own)))) in
-    swapped-done (now (args .start)) (args .plan .instances) (args .plan .arcs) (args .plan .first) (now (args .file)) (now (args .incoming)) (args .plan .slash) (now (args .cells)) (now (args .entries)) (now (args .cells2)) (now (args .entries2)) (args .swap) (args .leaver) (now (args .leavertype)) (args .comer) (now (args .comertype)) (args .own) (now (args .current)) (better .result) _ (sym (is-fault .ensures) ∙ not-true _ (if2 .taken)) judged (written-end (now (args .start)) (args .plan .instances) (args .plan .arcs) (args .plan .first) (now (args .file)) (now (args .incoming)) (args .plan .slash) (now (args .cells)) (now (args .entries)) (now (args .cells2)) (now (args .entries2)) (args .swap) (args .leaver) (now (args .leavertype)) (args .comer) (now (args .comertype)) (now (args .current)) _ (rw e at (rw (← write-seats .ensures) at (part-written (now (args .start)) (args .plan .instances) (args .plan .arcs) (args .plan .first) (now (args .file)) (now (args .incoming)) (args .plan .slash) (now (args .cells)) (now (args .entries)) (now (args .cells2)) (now (args .entries2)) (args .swap) (args .leaver) (now (args .leavertype)) (args .comer) (now (args .comertype)) (pre .0 .ready) (mark-both .last .1 .1 .1 .1 .1 .1 .1 .1 .1 .1 .1 .1 .1 .1 .1 .0) (mark-both .ensures .1) 0 (choose .result .count) (choose .result .next) (choose .result .place) (choose .last .1 .1 .1 .1 .1 .0) (run-chunk .last .1 .1 .1 .1 .1 .1 .1 .1 .1 .1 .1 .1 .1 .1 .1 .1 .1 .0) (run-chunk .last .1 .1 .1 .1 .1 .1 .1 .1 .1 .1 .1 .1 .1 .1 .1 .1 .1 .1 .0) (choose .ensures .1) (run-chunk .ensures .2) (run-chunk .result) (run-chunk .ensures .3) (now (args .current)) (now (args .current)) (written-none (now (args .start)) (args .plan .instances) (args .plan .arcs) (args .plan .first) (now (args .file)) (now (args .incoming)) (args .plan .slash) (now (args .cells)) (now (args .entries)) (now (args .cells2)) (now (args .entries2)) (args .swap) (args .leaver) (now (args .leavertype)) (args .comer) (now (args .comertype)) (now (args .current)))))))
+    let judged = last-judged (now (args .start)) (args .plan .instances) (args .plan .arcs) (args .plan .first) (now (args .file)) (now (args .incoming)) (args .plan .slash) (now (args .cells)) (now (args .entries)) (now (args .cells2)) (now (args .entries2)) (args .swap) (args .leaver) (now (args .leavertype)) (args .comer) (now (args .comertype)) (pre .0 .ready) (mark-both .last .1 .1 .1 .1 .1 .1 .1 .1 .1 .1 .1 .1 .1 .1 .1 .0) (mark-both .ensures .1) 0 (choose .result .count) (choose .result .next) (choose .result .place) (choose .last .1 .1 .1 .1 .1 .0) (run-chunk .last .1 .1 .1 .1 .1 .1 .1 .1 .1 .1 .1 .1 .1 .1 .1 .1 .1 .0) (run-chunk .last .1 .1 .1 .1 .1 .1 .1 .1 .1 .1 .1 .1 .1 .1 .1 .1 .1 .1 .0) (choose .ensures .1) (run-chunk .ensures .2) (run-chunk .result) (run-chunk .ensures .3) (args .own) (args .own) (better .result) e (better .ensures) (arcs-none (now (args .start)) (args .plan .instances) (args .plan .arcs) (args .plan .first) (now (args .file)) (now (args .incoming)) (args .plan .slash) (now (args .cells)) (now (args .entries)) (now (args .cells2)) (now (args .entries2)) (args .swap) (args .leaver) (now (args .leavertype)) (args .comer) (now (args .comertype)) (args .own)) in
+    swapped-done (now (args .start)) (args .plan .instances) (args .plan .arcs) (args .plan .first) (now (args .file)) (now (args .incoming)) (args .plan .slash) (now (args .cells)) (now (args .entries)) (now (args .cells2)) (now (args .entries2)) (args .swap) (args .leaver) (now (args .leavertype)) (args .comer) (now (args .comertype)) (args .own) (now (args .current)) (better .result) _ (sym (is-fault .ensures) ∙ not-true _ (if2 .taken)) judged (last-written (now (args .start)) (args .plan .instances) (args .plan .arcs) (args .plan .first) (now (args .file)) (now (args .incoming)) (args .plan .slash) (now (args .cells)) (now (args .entries)) (now (args .cells2)) (now (args .entries2)) (args .swap) (args .leaver) (now (args .leavertype)) (args .comer) (now (args .comertype)) (pre .0 .ready) (mark-both .last .1 .1 .1 .1 .1 .1 .1 .1 .1 .1 .1 .1 .1 .1 .1 .0) (mark-both .ensures .1) 0 (choose .result .count) (choose .result .next) (choose .result .place) (choose .last .1 .1 .1 .1 .1 .0) (run-chunk .last .1 .1 .1 .1 .1 .1 .1 .1 .1 .1 .1 .1 .1 .1 .1 .1 .1 .0) (run-chunk .last .1 .1 .1 .1 .1 .1 .1 .1 .1 .1 .1 .1 .1 .1 .1 .1 .1 .1 .0) (choose .ensures .1) (run-chunk .ensures .2) (run-chunk .result) (run-chunk .ensures .3) (now (args .current)) (now (args .current)) _ e (write-seats .ensures) (written-none (now (args .start)) (args .plan .instances) (args .plan .arcs) (args .plan .first) (now (args .file)) (now (args .incoming)) (args .plan .slash) (now (args .cells)) (now (args .entries)) (now (args .cells2)) (now (args .entries2)) (args .swap) (args .leaver) (now (args .leavertype)) (args .comer) (now (args .comertype)) (now (args .current))))
 
 returns-3 : tie.Need-returns-3
 returns-3 c =
@@ -123,7 +123,7 @@ returns-3 c =
     let is-fault = c .before .is-fault in
     let if2 = c .if2 in
     let e : choose .result .next ≡ args .plan .arcs = omega (arith, choose .ensures .1 .2, if1 .left) in
-    let judged = arcs-end (now (args .start)) (args .plan .instances) (args .plan .arcs) (args .plan .first) (now (args .file)) (now (args .incoming)) (args .plan .slash) (now (args .cells)) (now (args .entries)) (now (args .cells2)) (now (args .entries2)) (args .swap) (args .leaver) (now (args .leavertype)) (args .comer) (now (args .comertype)) (args .own) (better .result) (rw (e, ← better .ensures) at (part-judged (now (args .start)) (args .plan .instances) (args .plan .arcs) (args .plan .first) (now (args .file)) (now (args .incoming)) (args .plan .slash) (now (args .cells)) (now (args .entries)) (now (args .cells2)) (now (args .entries2)) (args .swap) (args .leaver) (now (args .leavertype)) (args .comer) (now (args .comertype)) (pre .0 .ready) (mark-both .last .1 .1 .1 .1 .1 .1 .1 .1 .1 .1 .1 .1 .1 .1 .1 .0) (mark-both .ensures .1) 0 (choose .result .count) (choose .result .next) (choose .result .place) (choose .last .1 .1 .1 .1 .1 .0) (run-chunk .last .1 .1 .1 .1 .1 .1 .1 .1 .1 .1 .1 .1 .1 .1 .1 .1 .1 .0) (run-chunk .last .1 .1 .1 .1 .1 .1 .1 .1 .1 .1 .1 .1 .1 .1 .1 .1 .1 .1 .0) (choose .ensures .1) (run-chunk .ensures .2) (run-chunk .result) (run-chunk .ensures .3) (args .own) (args .own) (arcs-none (now (args .start)) (args .plan .instances) (args .plan .arcs) (args .plan .first) (now (args .file)) (now (args .incoming)) (args .plan .slash) (now (args .cells)) (now (args .entries)) (now (args .cells2)) (now (args .entries2)) (args .swap) (args .leaver) (now (args .leavertype)) (args .comer) (now (args .comertype)) (args .own)))) in
+    let judged = last-judged (now (args .start)) (args .plan .instances) (args .plan .arcs) (args .plan .first) (now (args .file)) (now (args .incoming)) (args .plan .slash) (now (args .cells)) (now (args .entries)) (now (args .cells2)) (now (args .entries2)) (args .swap) (args .leaver) (now (args .leavertype)) (args .comer) (now (args .comertype)) (pre .0 .ready) (mark-both .last .1 .1 .1 .1 .1 .1 .1 .1 .1 .1 .1 .1 .1 .1 .1 .0) (mark-both .ensures .1) 0 (choose .result .count) (choose .result .next) (choose .result .place) (choose .last .1 .1 .1 .1 .1 .0) (run-chunk .last .1 .1 .1 .1 .1 .1 .1 .1 .1 .1 .1 .1 .1 .1 .1 .1 .1 .0) (run-chunk .last .1 .1 .1 .1 .1 .1 .1 .1 .1 .1 .1 .1 .1 .1 .1 .1 .1 .1 .0) (choose .ensures .1) (run-chunk .ensures .2) (run-chunk .result) (run-chunk .ensures .3) (args .own) (args .own) (better .result) e (better .ensures) (arcs-none (now (args .start)) (args .plan .instances) (args .plan .arcs) (args .plan .first) (now (args .file)) (now (args .incoming)) (args .plan .slash) (now (args .cells)) (now (args .entries)) (now (args .cells2)) (now (args .entries2)) (args .swap) (args .leaver) (now (args .leavertype)) (args .comer) (now (args .comertype)) (args .own)) in
     swapped-stop (now (args .start)) (args .plan .instances) (args .plan .arcs) (args .plan .first) (now (args .file)) (now (args .incoming)) (args .plan .slash) (now (args .cells)) (now (args .entries)) (now (args .cells2)) (now (args .entries2)) (args .swap) (args .leaver) (now (args .leavertype)) (args .comer) (now (args .comertype)) (args .own) (now (args .current)) (better .result) _ (sym (is-fault .ensures) ∙ not-false _ (if2 .left)) judged refl
 
 pub swap-seated-spec : {M : Type 1} → statement M
