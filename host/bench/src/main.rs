@@ -159,15 +159,35 @@ impl Reissue {
     }
 }
 
+/// The tables of both texts of a patch.
+struct PatchRooms {
+    file: Rooms,
+    incoming: Rooms,
+}
+
+impl PatchRooms {
+    fn new(board: &Board, reissue: &Reissue) -> PatchRooms {
+        let rooms = |text: &[u8]| Rooms::new(text, Wanted::default());
+        PatchRooms { file: rooms(&board.text), incoming: rooms(reissue.incoming.as_bytes()) }
+    }
+}
+
+/// One patch: the answer's number, and how long it took.
+fn patch_once(board: &Board, reissue: &Reissue, rooms: &mut PatchRooms, current: &mut [u8]) -> (u64, f64) {
+    let incoming = reissue.incoming.as_bytes();
+    let swap = Swap { start: &board.start, file: &board.text, number: reissue.number, incoming };
+    let mut number = 0;
+    let time = best(1, || {
+        number = proved::patch(black_box(swap), current, &mut rooms.file.tables(), &mut rooms.incoming.tables()).number;
+    });
+    (number, time)
+}
+
 /// How long the patch takes by the proved functions; the patched sheet is in `current`.
 fn patch_time(board: &Board, reissue: &Reissue, current: &mut [u8]) -> f64 {
-    let incoming = reissue.incoming.as_bytes();
-    let mut rooms = Rooms::new(&board.text, Wanted::default());
-    let mut incoming_rooms = Rooms::new(incoming, Wanted::default());
-    let swap = Swap { start: &board.start, file: &board.text, number: reissue.number, incoming };
-    let answer = proved::patch(swap, current, &mut rooms.tables(), &mut incoming_rooms.tables());
-    assert_eq!(answer.number, 0, "refused {} at {}", answer.number, answer.place);
-    best(reissue.runs, || proved::patch(black_box(swap), current, &mut rooms.tables(), &mut incoming_rooms.tables()))
+    let mut rooms = PatchRooms::new(board, reissue);
+    assert_eq!(patch_once(board, reissue, &mut rooms, current).0, 0, "the patch is refused");
+    (0..reissue.runs).map(|_| patch_once(board, reissue, &mut rooms, current).1).fold(f64::INFINITY, f64::min)
 }
 
 fn patch_row(what: &str, board: &Board, reissue: &Reissue) -> Row {
@@ -197,28 +217,15 @@ fn patch_top_row(wires: usize) -> Row {
 }
 
 /// A current sheet that differs from this one in a record, the last that can be found: a patch refuses it with 18 when it has checked both sheets.
-fn unlike(board: &Board, reissue: &Reissue, current: &[u8]) -> Vec<u8> {
+fn unlike(board: &Board, reissue: &Reissue, rooms: &mut PatchRooms, current: &[u8]) -> Vec<u8> {
     for place in (0..current.len()).rev() {
         let mut other = current.to_vec();
         other[place] ^= 1;
-        if patch_once(board, reissue, &mut other).0 == 18 {
+        if patch_once(board, reissue, rooms, &mut other).0 == 18 {
             return other;
         }
     }
     panic!("no byte of the sheet belongs to a record");
-}
-
-/// One patch: the answer's number, and how long it took.
-fn patch_once(board: &Board, reissue: &Reissue, current: &mut [u8]) -> (u64, f64) {
-    let incoming = reissue.incoming.as_bytes();
-    let mut rooms = Rooms::new(&board.text, Wanted::default());
-    let mut incoming_rooms = Rooms::new(incoming, Wanted::default());
-    let swap = Swap { start: &board.start, file: &board.text, number: reissue.number, incoming };
-    let mut number = 0;
-    let time = best(1, || {
-        number = proved::patch(black_box(swap), current, &mut rooms.tables(), &mut incoming_rooms.tables()).number;
-    });
-    (number, time)
 }
 
 /// What a patch costs beside annotating, whole and beyond reading the file and checking the sheets: annotating checks one, a patch two. Each
@@ -226,17 +233,18 @@ fn patch_once(board: &Board, reissue: &Reissue, current: &mut [u8]) -> (u64, f64
 fn print_shares(mut board: Board) {
     let (_, mut current) = board.annotate();
     let reissue = Reissue::of_macro(&board, 1);
-    let mut other = unlike(&board, &reissue, &current);
+    let mut rooms = PatchRooms::new(&board, &reissue);
+    let mut other = unlike(&board, &reissue, &mut rooms, &current);
     let mut out = vec![0; board.start.len()];
     let mut least = [f64::INFINITY; 5];
     for _ in 0..SHARE_ROUNDS {
         let patch = patch_time(&board, &reissue, &mut current);
-        let check_both = patch_once(&board, &reissue, &mut other).1;
-        let Board { text, rooms, start, .. } = &mut board;
+        let check_both = patch_once(&board, &reissue, &mut rooms, &mut other).1;
+        let Board { text, rooms: tables, start, .. } = &mut board;
         let round = [
-            best(1, || proved::read_file(black_box(text), &mut rooms.tables())),
+            best(1, || proved::read_file(black_box(text), &mut tables.tables())),
             best(1, || proved::check_sheet(black_box(start))),
-            best(1, || proved::annotate(black_box(start), black_box(text), &mut rooms.tables(), &mut out)),
+            best(1, || proved::annotate(black_box(start), black_box(text), &mut tables.tables(), &mut out)),
             patch,
             check_both,
         ];
