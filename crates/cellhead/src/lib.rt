@@ -2,11 +2,10 @@
 ghost use mathlib.Core.Path.{_≡_};
 ghost use Prim.Native.Nat.{_+_, _-_, _≤_};
 ghost use lib.ListN.{length};
-ghost use Rattle.classes.specs.Classes.{classes};
 ghost use Rattle.cellhead.specs.Heads.{InstanceRead, PathHere, PathBehind, HeadRead};
 ghost use Rattle.tokens.specs.Stream.{placed};
 use tokenforms::Token;
-use tokens::token_from;
+use tokenforms::token_from;
 use nameshape::is_path;
 use headsteps::take_opened;
 use headsteps::take_next;
@@ -46,11 +45,11 @@ fn path_here(text: &[u8], kind: u8, start: usize, end: usize, long: bool, slash:
 }
 
 // The rest of INSTANCE: a path, nothing or '*', and the closing bracket.
-fn read_instance(text: &[u8], table: &[u8; 256], from: usize, slash: bool) -> Instance
-    requires { ⌜ (now table ≡ classes) × (from ≤ length (now text)) ⌝ }
+fn read_instance(text: &[u8], from: usize, slash: bool) -> Instance
+    requires { ⌜ from ≤ length (now text) ⌝ }
     ensures { λ r. ⌜ InstanceRead (now (text .entry)) from slash r ⌝ }
 {
-    let t = token_from(text, table, from);
+    let t = token_from(text, from);
     match t {
         Token::Stop { number, place } => Instance::Refused { number: number, place: place },
         Token::Got { kind, start, end, long } => {
@@ -58,7 +57,7 @@ fn read_instance(text: &[u8], table: &[u8; 256], from: usize, slash: bool) -> In
                 return Instance::Path { sort: 0, from: 0, to: 0, end: end };
             }
             if kind == 5 {
-                let m = expect(text, table, end, 3);
+                let m = expect(text, end, 3);
                 return match m {
                     Mark::Refused { number, place } => Instance::Refused { number: number, place: place },
                     Mark::At(e) => Instance::Path { sort: 2, from: 0, to: 0, end: e },
@@ -66,7 +65,7 @@ fn read_instance(text: &[u8], table: &[u8; 256], from: usize, slash: bool) -> In
             }
             let n = path_here(text, kind, start, end, long, slash);
             if n == 0 {
-                let m = expect(text, table, end, 3);
+                let m = expect(text, end, 3);
                 return match m {
                     Mark::Refused { number, place } => Instance::Refused { number: number, place: place },
                     Mark::At(e) => Instance::Path { sort: 1, from: start, to: end, end: e },
@@ -78,33 +77,33 @@ fn read_instance(text: &[u8], table: &[u8; 256], from: usize, slash: bool) -> In
 }
 
 // INSTANCE behind the type's text, and its path.
-fn cell_path(text: &[u8], table: &[u8; 256], from: usize, slash: bool) -> Instance
-    requires { ⌜ (now table ≡ classes) × (from ≤ length (now text)) ⌝ }
+fn cell_path(text: &[u8], from: usize, slash: bool) -> Instance
+    requires { ⌜ from ≤ length (now text) ⌝ }
     ensures { λ r. ⌜ PathBehind (now (text .entry)) from slash r ⌝ }
 {
-    let hand = take_next(text, table, from);
+    let hand = take_next(text, from);
     let m = expect_key(text, hand, 55);
     match m {
         Mark::Refused { number, place } => Instance::Refused { number: number, place: place },
-        Mark::At(behind) => read_instance(text, table, behind, slash),
+        Mark::At(behind) => read_instance(text, behind, slash),
     }
 }
 
 // A cell's type and path, behind its keyword.
-pub fn cell_head(text: &[u8], table: &[u8; 256], from: usize, slash: bool) -> CellHead
-    requires { ⌜ (now table ≡ classes) × (from ≤ length (now text)) ⌝ }
+pub fn cell_head(text: &[u8], from: usize, slash: bool) -> CellHead
+    requires { ⌜ from ≤ length (now text) ⌝ }
     ensures { λ r. ⌜ HeadRead (now (text .entry)) from slash r ⌝ }
 {
-    let hand = take_opened(text, table, from);
+    let hand = take_opened(text, from);
     let m = expect_key(text, hand, 54);
     match m {
         Mark::Refused { number, place } => CellHead::Refused { number: number, place: place },
         Mark::At(behind) => {
-            let t = read_text(text, table, behind);
+            let t = read_text(text, behind);
             match t {
                 ReadName::Refused { number, place } => CellHead::Refused { number: number, place: place },
                 ReadName::Name { from: open, to } => {
-                    let i = cell_path(text, table, to, slash);
+                    let i = cell_path(text, to, slash);
                     match i {
                         Instance::Refused { number, place } => CellHead::Refused { number: number, place: place },
                         Instance::Path { sort, from: pathfrom, to: pathto, end } => CellHead::Head {

@@ -3,7 +3,6 @@ ghost use mathlib.Core.Path.{_≡_};
 ghost use mathlib.Core.Bool.{true, false};
 ghost use Prim.Native.Nat.{_+_, _*_, _-_, _≤_, _<_};
 ghost use lib.ListN.{length, take};
-ghost use Rattle.classes.specs.Classes.{classes};
 ghost use Rattle.classes.specs.Choice.{pick};
 ghost use Rattle.rules.specs.Contracts.{Listable, item};
 ghost use Rattle.tables.specs.Layout.{entryRow};
@@ -11,7 +10,7 @@ ghost use Rattle.tables.specs.Pastes.{put};
 ghost use Rattle.rules.specs.Bodies.{Either, Turned, OpenTurned, shutBy, itemPlace};
 ghost use Rattle.cells.specs.Cells.{Sighted, groupOf, BodyRead};
 use tokenforms::Token;
-use tokens::token_from;
+use tokenforms::token_from;
 use tokens::mark_from;
 use words::key_of;
 use values::wrong_at;
@@ -34,11 +33,11 @@ pub struct Sight {
 }
 
 // One of two keywords, the first or the one that follows it in number, right behind an opening bracket.
-fn read_keyword(text: &[u8], table: &[u8; 256], from: usize, first: u8) -> Keyword
-    requires { ⌜ (now table ≡ classes) × (from ≤ length (now text)) × (first < 255) ⌝ }
+fn read_keyword(text: &[u8], from: usize, first: u8) -> Keyword
+    requires { ⌜ (from ≤ length (now text)) × (first < 255) ⌝ }
     ensures { λ r. ⌜ Either (now (text .entry)) from first r ⌝ }
 {
-    let t = token_from(text, table, from);
+    let t = token_from(text, from);
     match t {
         Token::Stop { number, place } => Keyword::Refused { number: number, place: place },
         Token::Got { kind, start, end, long } => {
@@ -100,11 +99,11 @@ fn shut(within: Within, some: bool, start: usize, end: usize) -> Turn
 }
 
 // Behind an opening bracket among a cell's sections: DELAY or TIMINGCHECK.
-fn open_section(text: &[u8], table: &[u8; 256], from: usize, slash: bool) -> Turn
-    requires { ⌜ (now table ≡ classes) × (from ≤ length (now text)) ⌝ }
+fn open_section(text: &[u8], from: usize, slash: bool) -> Turn
+    requires { ⌜ from ≤ length (now text) ⌝ }
     ensures { λ r. ⌜ OpenTurned (now (text .entry)) from Within.Cell slash r ⌝ }
 {
-    let k = read_keyword(text, table, from, 56);
+    let k = read_keyword(text, from, 56);
     match k {
         Keyword::Refused { number, place } => Turn::Refused { number: number, place: place },
         Keyword::Found { second, end } => {
@@ -117,11 +116,11 @@ fn open_section(text: &[u8], table: &[u8; 256], from: usize, slash: bool) -> Tur
 }
 
 // Behind an opening bracket in a DELAY: ABSOLUTE or INCREMENT.
-fn open_group(text: &[u8], table: &[u8; 256], from: usize, slash: bool) -> Turn
-    requires { ⌜ (now table ≡ classes) × (from ≤ length (now text)) ⌝ }
+fn open_group(text: &[u8], from: usize, slash: bool) -> Turn
+    requires { ⌜ from ≤ length (now text) ⌝ }
     ensures { λ r. ⌜ OpenTurned (now (text .entry)) from Within.Delay slash r ⌝ }
 {
-    let k = read_keyword(text, table, from, 58);
+    let k = read_keyword(text, from, 58);
     match k {
         Keyword::Refused { number, place } => Turn::Refused { number: number, place: place },
         Keyword::Found { second, end } => {
@@ -134,13 +133,13 @@ fn open_group(text: &[u8], table: &[u8; 256], from: usize, slash: bool) -> Turn
 }
 
 // Behind an opening bracket.
-fn open_turn(text: &[u8], table: &[u8; 256], from: usize, within: Within, slash: bool) -> Turn
-    requires { ⌜ (now table ≡ classes) × (from ≤ length (now text)) ⌝ }
+fn open_turn(text: &[u8], from: usize, within: Within, slash: bool) -> Turn
+    requires { ⌜ from ≤ length (now text) ⌝ }
     ensures { λ r. ⌜ OpenTurned (now (text .entry)) from within slash r ⌝ }
 {
     match within {
-        Within::Cell => open_section(text, table, from, slash),
-        Within::Delay => open_group(text, table, from, slash),
+        Within::Cell => open_section(text, from, slash),
+        Within::Delay => open_group(text, from, slash),
         Within::Absolute => Turn::Entry(from),
         Within::Increment => Turn::Entry(from),
         Within::Check => Turn::Entry(from),
@@ -149,17 +148,17 @@ fn open_turn(text: &[u8], table: &[u8; 256], from: usize, within: Within, slash:
 
 // What stands at a place: a token's kind and ends, or, where there is none, the refusal's number as the kind and its place as the start.
 // Brackets are seen at once, with no token made.
-fn look(text: &[u8], table: &[u8; 256], from: usize) -> Sight
-    requires { ⌜ (now table ≡ classes) × (from ≤ length (now text)) ⌝ }
+fn look(text: &[u8], from: usize) -> Sight
+    requires { ⌜ from ≤ length (now text) ⌝ }
     ensures { λ r. ⌜ Sighted (now (text .entry)) from r ⌝ }
 {
-    let m = mark_from(text, table, from);
+    let m = mark_from(text, from);
     let i = m.place;
     let mark = m.kind;
     if 2 <= mark {
         return Sight { stopped: false, kind: mark, start: i, end: i + 1 };
     }
-    let t = token_from(text, table, i);
+    let t = token_from(text, i);
     match t {
         Token::Stop { number, place } => Sight { stopped: true, kind: number, start: place, end: 0 },
         Token::Got { kind, start, end, long: _ } => Sight { stopped: false, kind: kind, start: start, end: end },
@@ -167,11 +166,11 @@ fn look(text: &[u8], table: &[u8; 256], from: usize) -> Sight
 }
 
 // One step through a cell's sections, up to the next entry.
-fn body_turn(text: &[u8], table: &[u8; 256], from: usize, within: Within, some: bool, slash: bool) -> Turn
-    requires { ⌜ (now table ≡ classes) × (from ≤ length (now text)) ⌝ }
+fn body_turn(text: &[u8], from: usize, within: Within, some: bool, slash: bool) -> Turn
+    requires { ⌜ from ≤ length (now text) ⌝ }
     ensures { λ r. ⌜ Turned (now (text .entry)) from within some slash r ⌝ }
 {
-    let seen = look(text, table, from);
+    let seen = look(text, from);
     let stopped = seen.stopped;
     let kind = seen.kind;
     let start = seen.start;
@@ -183,7 +182,7 @@ fn body_turn(text: &[u8], table: &[u8; 256], from: usize, within: Within, some: 
         return shut(within, some, start, end);
     }
     if kind == 2 {
-        return open_turn(text, table, end, within, slash);
+        return open_turn(text, end, within, slash);
     }
     Turn::Refused { number: 4, place: start }
 }
@@ -202,15 +201,15 @@ fn group_of(within: Within) -> u8
 }
 
 // An entry behind its opening bracket. Each reader is called in one place only, so that the record is made where it is used.
-fn read_entry(text: &[u8], table: &[u8; 256], from: usize, within: Within, slash: bool, unit: u8, room: usize) -> ReadEntry
-    requires { ⌜ (now table ≡ classes) × (from ≤ length (now text)) ⌝ }
+fn read_entry(text: &[u8], from: usize, within: Within, slash: bool, unit: u8, room: usize) -> ReadEntry
+    requires { ⌜ from ≤ length (now text) ⌝ }
     ensures { λ r. ⌜ Listable (now (text .entry)) from (itemPlace within slash) slash unit room (r .status) (r .entry) (take (r .count) (r .list)) × (r .count ≤ 6) ⌝ }
 {
     let group = group_of(within);
     if group == 0 {
-        return read_check(text, table, from, slash, unit, room);
+        return read_check(text, from, slash, unit, room);
     }
-    read_delay(text, table, from, slash, unit, group, room)
+    read_delay(text, from, slash, unit, group, room)
 }
 
 // The record goes to its row, where the table is to be filled.
@@ -227,7 +226,6 @@ fn note_entry(entries: &mut [u64], row: usize, fill: bool, e: ReadEntry)
 // entries there is room for.
 pub fn read_body(
     text: &[u8],
-    table: &[u8; 256],
     from: usize,
     slash: bool,
     unit: u8,
@@ -236,7 +234,7 @@ pub fn read_body(
     row: usize,
     entries: &mut [u64],
 ) -> ReadBody
-    requires { ⌜ (now table ≡ classes) × (from ≤ length (now text)) × (28 * (row + room) ≤ length (now entries)) ⌝ }
+    requires { ⌜ (from ≤ length (now text)) × (28 * (row + room) ≤ length (now entries)) ⌝ }
     ensures { λ r. ⌜ BodyRead (now (text .entry)) from slash unit room fill row (now (entries .entry)) (now (entries .exit)) r ⌝ }
 {
     let mut within = Within::Cell;
@@ -244,7 +242,7 @@ pub fn read_body(
     let mut p = from;
     let mut n: usize = 0;
     loop {
-        let t = body_turn(text, table, p, within, some, slash);
+        let t = body_turn(text, p, within, some, slash);
         match t {
             Turn::Refused { number, place } => {
                 return ReadBody::Refused { number: number, place: place };
@@ -258,7 +256,7 @@ pub fn read_body(
                 p = q;
             }
             Turn::Entry(q) => {
-                let e = read_entry(text, table, q, within, slash, unit, room - n);
+                let e = read_entry(text, q, within, slash, unit, room - n);
                 let status = e.status;
                 match status {
                     Status::Refused { number, place } => {

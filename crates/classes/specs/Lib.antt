@@ -1,3 +1,6 @@
 pub mod Choice
+pub mod Each
 pub mod Text
 pub mod Classes
+pub mod ClassLaws
+pub mod Answers

@@ -1,38 +1,95 @@
-// The class of each of the 256 byte values (document 01, 'Bytes and words').
+// The class of a byte, by comparisons against document 01's ranges, in the order and the words of its 'Bytes and words'; and the questions that
+// the loops over a text ask of every byte, each about a single class.
 ghost use mathlib.Core.Path.{_≡_};
-ghost use Rattle.classes.specs.Classes.{classOf, classes};
+ghost use mathlib.Core.Bool.{not};
+ghost use lib.Dec.{eqb};
+ghost use Rattle.classes.specs.Choice.{within};
+ghost use Rattle.classes.specs.Classes.{isLetter, isDigit, classOf, markOf};
 
-// 0 illegal, 1 white space, 2 (, 3 ), 4 :, 5 *, 6 ", 7 plain in a word, 8 /, 9 [, 10 ], 11 backslash, 12 other printable.
-const CLASSES: [u8; 256] = [
-    0, 0, 0, 0, 0, 0, 0, 0, 0, 1, 1, 0, 0, 1, 0, 0,
-    0, 0, 0, 0, 0, 0, 0, 0, 0, 0, 0, 0, 0, 0, 0, 0,
-    1, 12, 6, 12, 7, 12, 12, 12, 2, 3, 5, 7, 12, 7, 7, 8,
-    7, 7, 7, 7, 7, 7, 7, 7, 7, 7, 4, 12, 12, 12, 12, 12,
-    12, 7, 7, 7, 7, 7, 7, 7, 7, 7, 7, 7, 7, 7, 7, 7,
-    7, 7, 7, 7, 7, 7, 7, 7, 7, 7, 7, 9, 11, 10, 12, 7,
-    12, 7, 7, 7, 7, 7, 7, 7, 7, 7, 7, 7, 7, 7, 7, 7,
-    7, 7, 7, 7, 7, 7, 7, 7, 7, 7, 7, 12, 12, 12, 12, 0,
-    0, 0, 0, 0, 0, 0, 0, 0, 0, 0, 0, 0, 0, 0, 0, 0,
-    0, 0, 0, 0, 0, 0, 0, 0, 0, 0, 0, 0, 0, 0, 0, 0,
-    0, 0, 0, 0, 0, 0, 0, 0, 0, 0, 0, 0, 0, 0, 0, 0,
-    0, 0, 0, 0, 0, 0, 0, 0, 0, 0, 0, 0, 0, 0, 0, 0,
-    0, 0, 0, 0, 0, 0, 0, 0, 0, 0, 0, 0, 0, 0, 0, 0,
-    0, 0, 0, 0, 0, 0, 0, 0, 0, 0, 0, 0, 0, 0, 0, 0,
-    0, 0, 0, 0, 0, 0, 0, 0, 0, 0, 0, 0, 0, 0, 0, 0,
-    0, 0, 0, 0, 0, 0, 0, 0, 0, 0, 0, 0, 0, 0, 0, 0,
-];
-
-// The table, made once and lent down: a constant array that is indexed in place is written out anew at each read.
-pub fn class_table() -> [u8; 256]
-    ensures { λ r. ⌜ r ≡ classes ⌝ }
-{
-    CLASSES
-}
-
-pub fn class_of(table: &[u8; 256], byte: u8) -> u8
-    requires { ⌜ now table ≡ classes ⌝ }
+pub fn class_of(byte: u8) -> u8
     ensures { λ r. ⌜ r ≡ classOf byte ⌝ }
 {
-    let n = byte as usize;
-    table[n]
+    match byte {
+        // 'Tab, LF, CR and space are white space.'
+        b'\t' | b'\n' | b'\r' | b' ' => 1,
+        // 'Tokens are ( ) : * a quoted string, a word.'
+        b'(' => 2,
+        b')' => 3,
+        b':' => 4,
+        b'*' => 5,
+        b'"' => 6,
+        // 'A word is a longest run of letters, digits, _ $ . / [ ] + - and escaped pairs.'
+        b'A'..=b'Z' | b'a'..=b'z' | b'0'..=b'9' | b'_' | b'$' | b'.' | b'+' | b'-' => 7,
+        b'/' => 8,
+        b'[' => 9,
+        b']' => 10,
+        b'\\' => 11,
+        // 'Any other printable byte'
+        0x20..=0x7E => 12,
+        // 'Legal bytes are tab, LF, CR and 0x20 to 0x7E.'
+        _ => 0,
+    }
+}
+
+// From low to high, both included.
+pub fn is_within(low: u8, high: u8, byte: u8) -> bool
+    ensures { λ r. ⌜ r ≡ within low high byte ⌝ }
+{
+    low <= byte && byte <= high
+}
+
+pub fn is_letter(byte: u8) -> bool
+    ensures { λ r. ⌜ r ≡ isLetter byte ⌝ }
+{
+    is_within(b'A', b'Z', byte) || is_within(b'a', b'z', byte)
+}
+
+pub fn is_digit(byte: u8) -> bool
+    ensures { λ r. ⌜ r ≡ isDigit byte ⌝ }
+{
+    is_within(b'0', b'9', byte)
+}
+
+// Plain in a word: most bytes are, and most of those are digits and letters.
+pub fn is_plain(byte: u8) -> bool
+    ensures { λ r. ⌜ r ≡ eqb (classOf byte) 7 ⌝ }
+{
+    if is_digit(byte) {
+        return true;
+    }
+    if is_letter(byte) {
+        return true;
+    }
+    match byte {
+        b'_' | b'$' | b'.' | b'+' | b'-' => true,
+        _ => false,
+    }
+}
+
+pub fn is_white(byte: u8) -> bool
+    ensures { λ r. ⌜ r ≡ eqb (classOf byte) 1 ⌝ }
+{
+    match byte {
+        b'\t' | b'\n' | b'\r' | b' ' => true,
+        _ => false,
+    }
+}
+
+pub fn is_legal(byte: u8) -> bool
+    ensures { λ r. ⌜ r ≡ not (eqb (classOf byte) 0) ⌝ }
+{
+    is_within(0x20, 0x7E, byte) || is_white(byte)
+}
+
+// The class of a mark: ( ) : * . 0 for any other byte.
+pub fn mark_of(byte: u8) -> u8
+    ensures { λ r. ⌜ r ≡ markOf byte ⌝ }
+{
+    match byte {
+        b'(' => 2,
+        b')' => 3,
+        b':' => 4,
+        b'*' => 5,
+        _ => 0,
+    }
 }

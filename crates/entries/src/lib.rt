@@ -5,7 +5,6 @@ ghost use mathlib.Core.Bool.{true, false};
 ghost use mathlib.Core.List.{[], _∷_};
 ghost use Prim.Native.Nat.{_-_, _≤_, _<_};
 ghost use lib.ListN.{length, take};
-ghost use Rattle.classes.specs.Classes.{classes};
 ghost use Rattle.grammar.specs.Ll.{non};
 ghost use Rattle.grammar.specs.Grammar.{second, iopathTail, interconnectTail, portTail, twoEnds, device, delay, check, end?};
 ghost use Rattle.grammar.specs.Meaning.{wrongly};
@@ -13,7 +12,7 @@ ghost use Rattle.rules.specs.Contracts.{ValuesFrom, Entered, Listable, withValu
 ghost use Rattle.rules.specs.Entries.{checkValues, SecondValue, delayTail, checkTail};
 ghost use Rattle.classes.specs.Choice.{pick};
 use tokenforms::Token;
-use tokens::token_from;
+use tokenforms::token_from;
 use words::key_of;
 use kinds::has_second;
 use kinds::is_signed;
@@ -67,19 +66,19 @@ fn with_values(entry: Entry, values: Values) -> ReadEntry
 }
 
 // IOPATH.
-fn read_iopath(text: &[u8], table: &[u8; 256], from: usize, slash: bool, unit: u8, group: u8, place: usize) -> ReadEntry
-    requires { ⌜ (now table ≡ classes) × (from ≤ length (now text)) ⌝ }
+fn read_iopath(text: &[u8], from: usize, slash: bool, unit: u8, group: u8, place: usize) -> ReadEntry
+    requires { ⌜ from ≤ length (now text) ⌝ }
     ensures { λ r. ⌜ Entered (now (text .entry)) from (iopathTail slash) slash unit 1 group place (r .status) (r .entry) (take (r .count) (r .list)) × (r .count ≤ 6) ⌝ }
 {
-    let a = entryends::read_end(text, table, from, false, slash);
+    let a = entryends::read_end(text, from, false, slash);
     match a {
         ReadEnd::Refused { number, place: at } => no_entry(number, at),
         ReadEnd::End { edge, from: from1, to: to1, end } => {
-            let b = entryends::read_port(text, table, end, slash);
+            let b = entryends::read_port(text, end, slash);
             match b {
                 ReadName::Refused { number, place: at } => no_entry(number, at),
                 ReadName::Name { from: from2, to: to2 } => {
-                    let values = values::open_values(text, table, to2, unit);
+                    let values = values::open_values(text, to2, unit);
                     let entry = Entry { kind: 1, group: group, place: place, edge1: edge, from1: from1, to1: to1, edge2: 0, from2: from2, to2: to2 };
                     with_values(entry, values)
                 }
@@ -89,19 +88,19 @@ fn read_iopath(text: &[u8], table: &[u8; 256], from: usize, slash: bool, unit: u
 }
 
 // INTERCONNECT.
-fn read_interconnect(text: &[u8], table: &[u8; 256], from: usize, slash: bool, unit: u8, group: u8, place: usize) -> ReadEntry
-    requires { ⌜ (now table ≡ classes) × (from ≤ length (now text)) ⌝ }
+fn read_interconnect(text: &[u8], from: usize, slash: bool, unit: u8, group: u8, place: usize) -> ReadEntry
+    requires { ⌜ from ≤ length (now text) ⌝ }
     ensures { λ r. ⌜ Entered (now (text .entry)) from (interconnectTail slash) slash unit 2 group place (r .status) (r .entry) (take (r .count) (r .list)) × (r .count ≤ 6) ⌝ }
 {
-    let a = entryends::read_port(text, table, from, slash);
+    let a = entryends::read_port(text, from, slash);
     match a {
         ReadName::Refused { number, place: at } => no_entry(number, at),
         ReadName::Name { from: from1, to: to1 } => {
-            let b = entryends::read_port(text, table, to1, slash);
+            let b = entryends::read_port(text, to1, slash);
             match b {
                 ReadName::Refused { number, place: at } => no_entry(number, at),
                 ReadName::Name { from: from2, to: to2 } => {
-                    let values = values::open_values(text, table, to2, unit);
+                    let values = values::open_values(text, to2, unit);
                     let entry = Entry { kind: 2, group: group, place: place, edge1: 0, from1: from1, to1: to1, edge2: 0, from2: from2, to2: to2 };
                     with_values(entry, values)
                 }
@@ -111,15 +110,15 @@ fn read_interconnect(text: &[u8], table: &[u8; 256], from: usize, slash: bool, u
 }
 
 // PORT.
-fn read_port_delay(text: &[u8], table: &[u8; 256], from: usize, slash: bool, unit: u8, group: u8, place: usize) -> ReadEntry
-    requires { ⌜ (now table ≡ classes) × (from ≤ length (now text)) ⌝ }
+fn read_port_delay(text: &[u8], from: usize, slash: bool, unit: u8, group: u8, place: usize) -> ReadEntry
+    requires { ⌜ from ≤ length (now text) ⌝ }
     ensures { λ r. ⌜ Entered (now (text .entry)) from (portTail slash) slash unit 3 group place (r .status) (r .entry) (take (r .count) (r .list)) × (r .count ≤ 6) ⌝ }
 {
-    let a = entryends::read_port(text, table, from, slash);
+    let a = entryends::read_port(text, from, slash);
     match a {
         ReadName::Refused { number, place: at } => no_entry(number, at),
         ReadName::Name { from: from1, to: to1 } => {
-            let values = values::open_values(text, table, to1, unit);
+            let values = values::open_values(text, to1, unit);
             let entry = Entry { kind: 3, group: group, place: place, edge1: 0, from1: from1, to1: to1, edge2: 0, from2: 0, to2: 0 };
             with_values(entry, values)
         }
@@ -127,22 +126,22 @@ fn read_port_delay(text: &[u8], table: &[u8; 256], from: usize, slash: bool, uni
 }
 
 // DEVICE, with a port or without.
-fn read_device(text: &[u8], table: &[u8; 256], from: usize, slash: bool, unit: u8, group: u8, place: usize) -> ReadEntry
-    requires { ⌜ (now table ≡ classes) × (from ≤ length (now text)) ⌝ }
+fn read_device(text: &[u8], from: usize, slash: bool, unit: u8, group: u8, place: usize) -> ReadEntry
+    requires { ⌜ from ≤ length (now text) ⌝ }
     ensures { λ r. ⌜ Entered (now (text .entry)) from (non (device slash) ∷ []) slash unit 4 group place (r .status) (r .entry) (take (r .count) (r .list)) × (r .count ≤ 6) ⌝ }
 {
-    let t = token_from(text, table, from);
+    let t = token_from(text, from);
     match t {
         Token::Stop { number, place: at } => no_entry(number, at),
         Token::Got { kind, start, end, long } => {
             if kind == 2 {
-                let values = values::read_values(text, table, end, unit);
+                let values = values::read_values(text, end, unit);
                 let bare = Entry { kind: 4, group: group, place: place, edge1: 0, from1: 0, to1: 0, edge2: 0, from2: 0, to2: 0 };
                 return with_values(bare, values);
             }
             let n = entryends::port_here(text, kind, start, end, long, slash);
             if n == 0 {
-                let values = values::open_values(text, table, end, unit);
+                let values = values::open_values(text, end, unit);
                 let entry = Entry { kind: 4, group: group, place: place, edge1: 0, from1: start, to1: end, edge2: 0, from2: 0, to2: 0 };
                 return with_values(entry, values);
             }
@@ -165,15 +164,15 @@ fn these_values(v: Value, second: Value, two: bool, end: usize) -> Values
 }
 
 // The second of two values of a check, and its closing bracket; v is the first.
-fn second_value(text: &[u8], table: &[u8; 256], from: usize, signed: bool, unit: u8, v: Value) -> Values
-    requires { ⌜ (now table ≡ classes) × (from ≤ length (now text)) ⌝ }
+fn second_value(text: &[u8], from: usize, signed: bool, unit: u8, v: Value) -> Values
+    requires { ⌜ from ≤ length (now text) ⌝ }
     ensures { λ r. ⌜ SecondValue (now (text .entry)) from signed unit v (r .status) (take (r .count) (r .list)) × (r .count ≤ 6) ⌝ }
 {
-    let b = values::open_value(text, table, from, signed, unit);
+    let b = values::open_value(text, from, signed, unit);
     match b {
         ReadValue::Refused { number, place } => values::no_values(number, place),
         ReadValue::Value { v: second, end } => {
-            let m = values::expect(text, table, end, 3);
+            let m = values::expect(text, end, 3);
             match m {
                 Mark::Refused { number, place } => values::no_values(number, place),
                 Mark::At(e) => these_values(v, second, true, e),
@@ -183,18 +182,18 @@ fn second_value(text: &[u8], table: &[u8; 256], from: usize, signed: bool, unit:
 }
 
 // The values of a check, one or two, and its closing bracket.
-fn check_values(text: &[u8], table: &[u8; 256], from: usize, signed: bool, two: bool, unit: u8) -> Values
-    requires { ⌜ (now table ≡ classes) × (from ≤ length (now text)) ⌝ }
+fn check_values(text: &[u8], from: usize, signed: bool, two: bool, unit: u8) -> Values
+    requires { ⌜ from ≤ length (now text) ⌝ }
     ensures { λ r. ⌜ ValuesFrom (now (text .entry)) from (checkValues two signed) false unit (r .status) (take (r .count) (r .list)) × (r .count ≤ 6) ⌝ }
 {
-    let a = values::open_value(text, table, from, signed, unit);
+    let a = values::open_value(text, from, signed, unit);
     match a {
         ReadValue::Refused { number, place } => values::no_values(number, place),
         ReadValue::Value { v, end } => {
             if two {
-                return second_value(text, table, end, signed, unit, v);
+                return second_value(text, end, signed, unit, v);
             }
-            let m = values::expect(text, table, end, 3);
+            let m = values::expect(text, end, 3);
             match m {
                 Mark::Refused { number, place } => values::no_values(number, place),
                 Mark::At(e) => these_values(v, v, false, e),
@@ -206,7 +205,6 @@ fn check_values(text: &[u8], table: &[u8; 256], from: usize, signed: bool, two: 
 // A check of two ends.
 fn read_pair(
     text: &[u8],
-    table: &[u8; 256],
     from: usize,
     slash: bool,
     unit: u8,
@@ -215,18 +213,18 @@ fn read_pair(
     signed: bool,
     two: bool,
 ) -> ReadEntry
-    requires { ⌜ (now table ≡ classes) × (from ≤ length (now text)) ⌝ }
+    requires { ⌜ from ≤ length (now text) ⌝ }
     ensures { λ r. ⌜ Entered (now (text .entry)) from (twoEnds slash (checkValues two signed)) slash unit kind 84 place (r .status) (r .entry) (take (r .count) (r .list)) × (r .count ≤ 6) ⌝ }
 {
-    let a = entryends::read_end(text, table, from, false, slash);
+    let a = entryends::read_end(text, from, false, slash);
     match a {
         ReadEnd::Refused { number, place: at } => no_entry(number, at),
         ReadEnd::End { edge, from: from1, to: to1, end } => {
-            let b = entryends::read_end(text, table, end, true, slash);
+            let b = entryends::read_end(text, end, true, slash);
             match b {
                 ReadEnd::Refused { number, place: at } => no_entry(number, at),
                 ReadEnd::End { edge: edge2, from: from2, to: to2, end: end2 } => {
-                    let values = check_values(text, table, end2, signed, two, unit);
+                    let values = check_values(text, end2, signed, two, unit);
                     let entry = Entry { kind: kind, group: 84, place: place, edge1: edge, from1: from1, to1: to1, edge2: edge2, from2: from2, to2: to2 };
                     with_values(entry, values)
                 }
@@ -236,15 +234,15 @@ fn read_pair(
 }
 
 // A check of one end.
-fn read_single(text: &[u8], table: &[u8; 256], from: usize, slash: bool, unit: u8, kind: u8, place: usize) -> ReadEntry
-    requires { ⌜ (now table ≡ classes) × (from ≤ length (now text)) ⌝ }
+fn read_single(text: &[u8], from: usize, slash: bool, unit: u8, kind: u8, place: usize) -> ReadEntry
+    requires { ⌜ from ≤ length (now text) ⌝ }
     ensures { λ r. ⌜ Entered (now (text .entry)) from (non (end? false slash) ∷ checkValues false false) slash unit kind 84 place (r .status) (r .entry) (take (r .count) (r .list)) × (r .count ≤ 6) ⌝ }
 {
-    let a = entryends::read_end(text, table, from, false, slash);
+    let a = entryends::read_end(text, from, false, slash);
     match a {
         ReadEnd::Refused { number, place: at } => no_entry(number, at),
         ReadEnd::End { edge, from: from1, to: to1, end } => {
-            let values = check_values(text, table, end, false, false, unit);
+            let values = check_values(text, end, false, false, unit);
             let entry = Entry { kind: kind, group: 84, place: place, edge1: edge, from1: from1, to1: to1, edge2: 0, from2: 0, to2: 0 };
             with_values(entry, values)
         }
@@ -254,41 +252,41 @@ fn read_single(text: &[u8], table: &[u8; 256], from: usize, slash: bool, unit: u
 // ---- entries, at their keywords
 
 // An entry of a DELAY group, behind its keyword k.
-fn delay_of(text: &[u8], table: &[u8; 256], from: usize, slash: bool, unit: u8, k: u8, group: u8, place: usize) -> ReadEntry
-    requires { ⌜ (now table ≡ classes) × (from ≤ length (now text)) × (1 ≤ k) × (k ≤ 4) ⌝ }
+fn delay_of(text: &[u8], from: usize, slash: bool, unit: u8, k: u8, group: u8, place: usize) -> ReadEntry
+    requires { ⌜ (from ≤ length (now text)) × (1 ≤ k) × (k ≤ 4) ⌝ }
     ensures { λ r. ⌜ Entered (now (text .entry)) from (delayTail k slash) slash unit k group place (r .status) (r .entry) (take (r .count) (r .list)) × (r .count ≤ 6) ⌝ }
 {
     if k == 1 {
-        return read_iopath(text, table, from, slash, unit, group, place);
+        return read_iopath(text, from, slash, unit, group, place);
     }
     if k == 2 {
-        return read_interconnect(text, table, from, slash, unit, group, place);
+        return read_interconnect(text, from, slash, unit, group, place);
     }
     if k == 3 {
-        return read_port_delay(text, table, from, slash, unit, group, place);
+        return read_port_delay(text, from, slash, unit, group, place);
     }
-    read_device(text, table, from, slash, unit, group, place)
+    read_device(text, from, slash, unit, group, place)
 }
 
 // A check, behind its keyword k.
-fn check_of(text: &[u8], table: &[u8; 256], from: usize, slash: bool, unit: u8, k: u8, place: usize) -> ReadEntry
-    requires { ⌜ (now table ≡ classes) × (from ≤ length (now text)) ⌝ }
+fn check_of(text: &[u8], from: usize, slash: bool, unit: u8, k: u8, place: usize) -> ReadEntry
+    requires { ⌜ from ≤ length (now text) ⌝ }
     ensures { λ r. ⌜ Entered (now (text .entry)) from (checkTail k slash) slash unit k 84 place (r .status) (r .entry) (take (r .count) (r .list)) × (r .count ≤ 6) ⌝ }
 {
     if has_second(k) {
         let signed = is_signed(k);
         let rows = rows_of(k);
-        return read_pair(text, table, from, slash, unit, k, place, signed, rows == 2);
+        return read_pair(text, from, slash, unit, k, place, signed, rows == 2);
     }
-    read_single(text, table, from, slash, unit, k, place)
+    read_single(text, from, slash, unit, k, place)
 }
 
 // An entry of a DELAY group, behind its opening bracket; room is how many entries there is still room for.
-pub fn read_delay(text: &[u8], table: &[u8; 256], from: usize, slash: bool, unit: u8, group: u8, room: usize) -> ReadEntry
-    requires { ⌜ (now table ≡ classes) × (from ≤ length (now text)) ⌝ }
+pub fn read_delay(text: &[u8], from: usize, slash: bool, unit: u8, group: u8, room: usize) -> ReadEntry
+    requires { ⌜ from ≤ length (now text) ⌝ }
     ensures { λ r. ⌜ Listable (now (text .entry)) from (delay group slash) slash unit room (r .status) (r .entry) (take (r .count) (r .list)) × (r .count ≤ 6) ⌝ }
 {
-    let t = token_from(text, table, from);
+    let t = token_from(text, from);
     match t {
         Token::Stop { number, place } => no_entry(number, place),
         Token::Got { kind, start, end, long } => {
@@ -307,7 +305,7 @@ pub fn read_delay(text: &[u8], table: &[u8; 256], from: usize, slash: bool, unit
                 if room == 0 {
                     return no_entry(9, start);
                 }
-                return delay_of(text, table, end, slash, unit, k, group, start);
+                return delay_of(text, end, slash, unit, k, group, start);
             }
             wrong_entry(word, kind, start)
         }
@@ -315,11 +313,11 @@ pub fn read_delay(text: &[u8], table: &[u8; 256], from: usize, slash: bool, unit
 }
 
 // A check, behind its opening bracket.
-pub fn read_check(text: &[u8], table: &[u8; 256], from: usize, slash: bool, unit: u8, room: usize) -> ReadEntry
-    requires { ⌜ (now table ≡ classes) × (from ≤ length (now text)) ⌝ }
+pub fn read_check(text: &[u8], from: usize, slash: bool, unit: u8, room: usize) -> ReadEntry
+    requires { ⌜ from ≤ length (now text) ⌝ }
     ensures { λ r. ⌜ Listable (now (text .entry)) from (check slash) slash unit room (r .status) (r .entry) (take (r .count) (r .list)) × (r .count ≤ 6) ⌝ }
 {
-    let t = token_from(text, table, from);
+    let t = token_from(text, from);
     match t {
         Token::Stop { number, place } => no_entry(number, place),
         Token::Got { kind, start, end, long } => {
@@ -338,7 +336,7 @@ pub fn read_check(text: &[u8], table: &[u8; 256], from: usize, slash: bool, unit
                 if room == 0 {
                     return no_entry(9, start);
                 }
-                return check_of(text, table, end, slash, unit, k, start);
+                return check_of(text, end, slash, unit, k, start);
             }
             wrong_entry(word, kind, start)
         }

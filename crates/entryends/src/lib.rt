@@ -3,12 +3,11 @@ ghost use mathlib.Core.Path.{_≡_};
 ghost use mathlib.Core.Bool.{true};
 ghost use Prim.Native.Nat.{_-_, _≤_, _<_};
 ghost use lib.ListN.{length};
-ghost use Rattle.classes.specs.Classes.{classes};
 ghost use Rattle.tokens.specs.Stream.{placed};
 ghost use Rattle.grammar.specs.Grammar.{second};
 ghost use Rattle.rules.specs.Contracts.{PortHere, ReadsPort, EdgeIs, ReadsEnd, ReadsEdged};
 use tokenforms::Token;
-use tokens::token_from;
+use tokenforms::token_from;
 use words::edge_of;
 use nameshape::is_port;
 use grammar::Mark;
@@ -34,11 +33,11 @@ pub fn port_here(text: &[u8], kind: u8, start: usize, end: usize, long: bool, sl
 }
 
 // A port's name, where one stands alone.
-pub fn read_port(text: &[u8], table: &[u8; 256], from: usize, slash: bool) -> ReadName
-    requires { ⌜ (now table ≡ classes) × (from ≤ length (now text)) ⌝ }
+pub fn read_port(text: &[u8], from: usize, slash: bool) -> ReadName
+    requires { ⌜ from ≤ length (now text) ⌝ }
     ensures { λ r. ⌜ ReadsPort (now (text .entry)) from slash r ⌝ }
 {
-    let t = token_from(text, table, from);
+    let t = token_from(text, from);
     match t {
         Token::Stop { number, place } => ReadName::Refused { number: number, place: place },
         Token::Got { kind, start, end, long } => {
@@ -73,11 +72,11 @@ fn edge_here(text: &[u8], kind: u8, start: usize, end: usize, long: bool) -> Edg
 }
 
 // An end with an edge, behind its opening bracket.
-fn read_edged(text: &[u8], table: &[u8; 256], from: usize, second: bool, slash: bool) -> ReadEnd
-    requires { ⌜ (now table ≡ classes) × (from ≤ length (now text)) ⌝ }
+fn read_edged(text: &[u8], from: usize, second: bool, slash: bool) -> ReadEnd
+    requires { ⌜ from ≤ length (now text) ⌝ }
     ensures { λ r. ⌜ ReadsEdged (now (text .entry)) from second slash r ⌝ }
 {
-    let t = token_from(text, table, from);
+    let t = token_from(text, from);
     match t {
         Token::Stop { number, place } => ReadEnd::Refused { number: number, place: place },
         Token::Got { kind, start, end, long } => {
@@ -85,11 +84,11 @@ fn read_edged(text: &[u8], table: &[u8; 256], from: usize, second: bool, slash: 
             match g {
                 EdgeHere::Refused(number) => ReadEnd::Refused { number: number, place: start },
                 EdgeHere::Edge(edge) => {
-                    let q = read_port(text, table, end, slash);
+                    let q = read_port(text, end, slash);
                     match q {
                         ReadName::Refused { number, place } => ReadEnd::Refused { number: number, place: place },
                         ReadName::Name { from: begin, to } => {
-                            let m = values::expect(text, table, to, 3);
+                            let m = values::expect(text, to, 3);
                             match m {
                                 Mark::Refused { number, place } => ReadEnd::Refused { number: number, place: place },
                                 Mark::At(e) => ReadEnd::End { edge: edge, from: begin, to: to, end: e },
@@ -103,16 +102,16 @@ fn read_edged(text: &[u8], table: &[u8; 256], from: usize, second: bool, slash: 
 }
 
 // An end that may carry an edge.
-pub fn read_end(text: &[u8], table: &[u8; 256], from: usize, second: bool, slash: bool) -> ReadEnd
-    requires { ⌜ (now table ≡ classes) × (from ≤ length (now text)) ⌝ }
+pub fn read_end(text: &[u8], from: usize, second: bool, slash: bool) -> ReadEnd
+    requires { ⌜ from ≤ length (now text) ⌝ }
     ensures { λ r. ⌜ ReadsEnd (now (text .entry)) from second slash r ⌝ }
 {
-    let t = token_from(text, table, from);
+    let t = token_from(text, from);
     match t {
         Token::Stop { number, place } => ReadEnd::Refused { number: number, place: place },
         Token::Got { kind, start, end, long } => {
             if kind == 2 {
-                return read_edged(text, table, end, second, slash);
+                return read_edged(text, end, second, slash);
             }
             let n = port_here(text, kind, start, end, long, slash);
             if n == 0 {

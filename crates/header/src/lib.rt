@@ -4,7 +4,6 @@
 ghost use mathlib.Core.Path.{_≡_};
 ghost use Prim.Native.Nat.{_≤_};
 ghost use lib.ListN.{length};
-ghost use Rattle.classes.specs.Classes.{classes};
 ghost use Rattle.rules.specs.Contracts.{InHand, HeaderRead};
 ghost use Rattle.headsteps.specs.Steps.{UnitRead, ScaleRead};
 ghost use Rattle.headsteps.specs.Steps.{PassesScale, FileOpened};
@@ -12,7 +11,7 @@ use grammar::Hand;
 use grammar::Head;
 use grammar::Mark;
 use tokenforms::Token;
-use tokens::token_from;
+use tokenforms::token_from;
 use words::scale_of;
 use words::unit_of;
 
@@ -46,11 +45,11 @@ fn no_scale(number: u8, place: usize) -> Scale
 }
 
 // The unit of a time scale, where it is a word of its own; power: that of the number before it, 10 ^ power.
-fn read_unit(text: &[u8], table: &[u8; 256], from: usize, power: u8) -> Scale
-    requires { ⌜ (now table ≡ classes) × (from ≤ length (now text)) × (power ≤ 2) ⌝ }
+fn read_unit(text: &[u8], from: usize, power: u8) -> Scale
+    requires { ⌜ (from ≤ length (now text)) × (power ≤ 2) ⌝ }
     ensures { λ r. ⌜ UnitRead (now (text .entry)) from power (r .end) (r .unit) × (r .unit ≤ 17) ⌝ }
 {
-    let t = token_from(text, table, from);
+    let t = token_from(text, from);
     match t {
         Token::Stop { number, place } => no_scale(number, place),
         Token::Got { kind, start, end, long: _ } => {
@@ -67,11 +66,11 @@ fn read_unit(text: &[u8], table: &[u8; 256], from: usize, power: u8) -> Scale
 }
 
 // A time scale, behind its keyword: a number and its unit, in one word or two.
-fn read_scale(text: &[u8], table: &[u8; 256], from: usize) -> Scale
-    requires { ⌜ (now table ≡ classes) × (from ≤ length (now text)) ⌝ }
+fn read_scale(text: &[u8], from: usize) -> Scale
+    requires { ⌜ from ≤ length (now text) ⌝ }
     ensures { λ r. ⌜ ScaleRead (now (text .entry)) from (r .end) (r .unit) × (r .unit ≤ 17) ⌝ }
 {
-    let t = token_from(text, table, from);
+    let t = token_from(text, from);
     match t {
         Token::Stop { number, place } => no_scale(number, place),
         Token::Got { kind, start, end, long: _ } => {
@@ -81,7 +80,7 @@ fn read_scale(text: &[u8], table: &[u8; 256], from: usize) -> Scale
                     return Scale { end: Mark::At(end), unit: scale - 11 };
                 }
                 if 1 <= scale {
-                    return read_unit(text, table, end, scale - 1);
+                    return read_unit(text, end, scale - 1);
                 }
                 return no_scale(4, start);
             }
@@ -91,15 +90,15 @@ fn read_scale(text: &[u8], table: &[u8; 256], from: usize) -> Scale
 }
 
 // TIMESCALE, if the token in hand is its keyword; 'without it, 1 ns'.
-fn pass_scale(text: &[u8], table: &[u8; 256], hand: Hand) -> Scaled
-    requires { ⌜ (now table ≡ classes) × InHand (now text) hand ⌝ }
+fn pass_scale(text: &[u8], hand: Hand) -> Scaled
+    requires { ⌜ InHand (now text) hand ⌝ }
     ensures { λ r. ⌜ PassesScale (now (text .entry)) hand (r .hand) (r .unit) × (r .unit ≤ 17) ⌝ }
 {
     match hand {
         Hand::Refused { number, place } => Scaled { hand: Hand::Refused { number: number, place: place }, unit: 6 },
         Hand::At { from: _, kind: _, start: _, end, long: _, key } => {
             if key == 52 {
-                let scale = read_scale(text, table, end);
+                let scale = read_scale(text, end);
                 let unit = scale.unit;
                 let end = scale.end;
                 match end {
@@ -107,7 +106,7 @@ fn pass_scale(text: &[u8], table: &[u8; 256], hand: Hand) -> Scaled
                         return Scaled { hand: Hand::Refused { number: number, place: place }, unit: unit };
                     }
                     Mark::At(behind) => {
-                        let next = headsteps::take_next(text, table, behind);
+                        let next = headsteps::take_next(text, behind);
                         return Scaled { hand: next, unit: unit };
                     }
                 }
@@ -120,43 +119,41 @@ fn pass_scale(text: &[u8], table: &[u8; 256], hand: Hand) -> Scaled
 // ---- the whole header
 
 // What every file begins with: DELAYFILE, SDFVERSION with its text, and the token of the next entry.
-fn open_file(text: &[u8], table: &[u8; 256], texts: &mut [usize; 14]) -> Hand
-    requires { ⌜ now table ≡ classes ⌝ }
+fn open_file(text: &[u8], texts: &mut [usize; 14]) -> Hand
     ensures { λ r. ⌜ FileOpened (now (text .entry)) (now (texts .entry)) (now (texts .exit)) r ⌝ }
 {
-    let outer = headsteps::take_opened(text, table, 0);
+    let outer = headsteps::take_opened(text, 0);
     let file = headsteps::expect_key(text, outer, 41);
     match file {
         Mark::Refused { number, place } => Hand::Refused { number: number, place: place },
         Mark::At(inside) => {
-            let inner = headsteps::take_opened(text, table, inside);
+            let inner = headsteps::take_opened(text, inside);
             let version = headsteps::expect_key(text, inner, 42);
             match version {
                 Mark::Refused { number, place } => Hand::Refused { number: number, place: place },
-                Mark::At(behind) => headsteps::read_heading(text, table, behind, 0, texts),
+                Mark::At(behind) => headsteps::read_heading(text, behind, 0, texts),
             }
         }
     }
 }
 
 // The header: its texts' places go to texts, two for each.
-pub fn read_header(text: &[u8], table: &[u8; 256], texts: &mut [usize; 14]) -> Head
-    requires { ⌜ now table ≡ classes ⌝ }
+pub fn read_header(text: &[u8], texts: &mut [usize; 14]) -> Head
     ensures { λ r. ⌜ HeaderRead (now (text .entry)) (now (texts .entry)) (now (texts .exit)) r × (r .unit ≤ 17) ⌝ }
 {
-    let opened = open_file(text, table, texts);
-    let design = headsteps::pass_text(text, table, opened, 43, 1, texts);
-    let date = headsteps::pass_text(text, table, design, 44, 2, texts);
-    let vendor = headsteps::pass_text(text, table, date, 45, 3, texts);
-    let program = headsteps::pass_text(text, table, vendor, 46, 4, texts);
-    let version = headsteps::pass_text(text, table, program, 47, 5, texts);
-    let divided = headsteps::pass_divider(text, table, version);
+    let opened = open_file(text, texts);
+    let design = headsteps::pass_text(text, opened, 43, 1, texts);
+    let date = headsteps::pass_text(text, design, 44, 2, texts);
+    let vendor = headsteps::pass_text(text, date, 45, 3, texts);
+    let program = headsteps::pass_text(text, vendor, 46, 4, texts);
+    let version = headsteps::pass_text(text, program, 47, 5, texts);
+    let divided = headsteps::pass_divider(text, version);
     let divider = divided.hand;
     let slash = divided.slash;
-    let voltage = headsteps::pass_bare(text, table, divider, 49);
-    let process = headsteps::pass_text(text, table, voltage, 50, 6, texts);
-    let temperature = headsteps::pass_bare(text, table, process, 51);
-    let scaled = pass_scale(text, table, temperature);
+    let voltage = headsteps::pass_bare(text, divider, 49);
+    let process = headsteps::pass_text(text, voltage, 50, 6, texts);
+    let temperature = headsteps::pass_bare(text, process, 51);
+    let scaled = pass_scale(text, temperature);
     let hand = scaled.hand;
     let unit = scaled.unit;
     Head { hand: hand, slash: slash, unit: unit }

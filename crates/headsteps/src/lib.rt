@@ -5,7 +5,6 @@ ghost use mathlib.Core.Bool.{true, false};
 ghost use mathlib.Core.List.{[], _∷_};
 ghost use Prim.Native.Nat.{_≤_};
 ghost use lib.ListN.{length};
-ghost use Rattle.classes.specs.Classes.{classes};
 ghost use Rattle.tokens.specs.Stream.{placed};
 ghost use Rattle.grammar.specs.Grammar.{⟨, ⟩, bare, bare1, bare2, bare3};
 ghost use Rattle.rules.specs.Contracts.{InHand};
@@ -18,7 +17,7 @@ use grammar::Mark;
 use grammar::ReadName;
 use numbershape::is_number;
 use tokenforms::Token;
-use tokens::token_from;
+use tokenforms::token_from;
 use words::divider_of;
 use words::key_of;
 
@@ -29,11 +28,11 @@ pub struct Divided {
 }
 
 // The token right behind an opening bracket that ends at from.
-pub fn take(text: &[u8], table: &[u8; 256], from: usize) -> Hand
-    requires { ⌜ (now table ≡ classes) × (from ≤ length (now text)) ⌝ }
+pub fn take(text: &[u8], from: usize) -> Hand
+    requires { ⌜ from ≤ length (now text) ⌝ }
     ensures { λ r. ⌜ Takes (now (text .entry)) from [] true r ⌝ }
 {
-    let t = token_from(text, table, from);
+    let t = token_from(text, from);
     match t {
         Token::Stop { number, place } => Hand::Refused { number: number, place: place },
         Token::Got { kind, start, end, long } => {
@@ -47,26 +46,26 @@ pub fn take(text: &[u8], table: &[u8; 256], from: usize) -> Hand
 }
 
 // An opening bracket, and the token behind it.
-pub fn take_opened(text: &[u8], table: &[u8; 256], from: usize) -> Hand
-    requires { ⌜ (now table ≡ classes) × (from ≤ length (now text)) ⌝ }
+pub fn take_opened(text: &[u8], from: usize) -> Hand
+    requires { ⌜ from ≤ length (now text) ⌝ }
     ensures { λ r. ⌜ Takes (now (text .entry)) from (⟨ ∷ []) false r ⌝ }
 {
-    let m = expect(text, table, from, 2);
+    let m = expect(text, from, 2);
     match m {
         Mark::Refused { number, place } => Hand::Refused { number: number, place: place },
-        Mark::At(inside) => take(text, table, inside),
+        Mark::At(inside) => take(text, inside),
     }
 }
 
 // A closing bracket, the next opening one, and the token behind it.
-pub fn take_next(text: &[u8], table: &[u8; 256], from: usize) -> Hand
-    requires { ⌜ (now table ≡ classes) × (from ≤ length (now text)) ⌝ }
+pub fn take_next(text: &[u8], from: usize) -> Hand
+    requires { ⌜ from ≤ length (now text) ⌝ }
     ensures { λ r. ⌜ Takes (now (text .entry)) from (⟩ ∷ ⟨ ∷ []) false r ⌝ }
 {
-    let m = expect(text, table, from, 3);
+    let m = expect(text, from, 3);
     match m {
         Mark::Refused { number, place } => Hand::Refused { number: number, place: place },
-        Mark::At(behind) => take_opened(text, table, behind),
+        Mark::At(behind) => take_opened(text, behind),
     }
 }
 
@@ -88,11 +87,11 @@ pub fn expect_key(text: &[u8], hand: Hand, n: u8) -> Mark
 }
 
 // A quoted string.
-pub fn read_text(text: &[u8], table: &[u8; 256], from: usize) -> ReadName
-    requires { ⌜ (now table ≡ classes) × (from ≤ length (now text)) ⌝ }
+pub fn read_text(text: &[u8], from: usize) -> ReadName
+    requires { ⌜ from ≤ length (now text) ⌝ }
     ensures { λ r. ⌜ TextRead (now (text .entry)) from r ⌝ }
 {
-    let t = token_from(text, table, from);
+    let t = token_from(text, from);
     match t {
         Token::Stop { number, place } => ReadName::Refused { number: number, place: place },
         Token::Got { kind, start, end, long } => {
@@ -108,15 +107,15 @@ pub fn read_text(text: &[u8], table: &[u8; 256], from: usize) -> ReadName
 }
 
 // The header's text of this number, behind its keyword, and the token of the next entry. The places between the quotes go to texts.
-pub fn read_heading(text: &[u8], table: &[u8; 256], from: usize, which: usize, texts: &mut [usize; 14]) -> Hand
-    requires { ⌜ (now table ≡ classes) × (from ≤ length (now text)) × (which ≤ 6) ⌝ }
+pub fn read_heading(text: &[u8], from: usize, which: usize, texts: &mut [usize; 14]) -> Hand
+    requires { ⌜ (from ≤ length (now text)) × (which ≤ 6) ⌝ }
     ensures { λ r. ⌜ HeadingRead (now (text .entry)) from which (now (texts .entry)) (now (texts .exit)) r ⌝ }
 {
-    let name = read_text(text, table, from);
+    let name = read_text(text, from);
     match name {
         ReadName::Refused { number, place } => Hand::Refused { number: number, place: place },
         ReadName::Name { from: start, to: end } => {
-            let hand = take_next(text, table, end);
+            let hand = take_next(text, end);
             match hand {
                 Hand::Refused { number, place } => Hand::Refused { number: number, place: place },
                 Hand::At { from: _, kind: _, start: _, end: _, long: _, key: _ } => {
@@ -130,15 +129,15 @@ pub fn read_heading(text: &[u8], table: &[u8; 256], from: usize, which: usize, t
 }
 
 // An entry with a text, if the token in hand is its keyword, n.
-pub fn pass_text(text: &[u8], table: &[u8; 256], hand: Hand, n: u8, which: usize, texts: &mut [usize; 14]) -> Hand
-    requires { ⌜ (now table ≡ classes) × InHand (now text) hand × IsText n which × (1 ≤ n) × (which ≤ 6) ⌝ }
+pub fn pass_text(text: &[u8], hand: Hand, n: u8, which: usize, texts: &mut [usize; 14]) -> Hand
+    requires { ⌜ InHand (now text) hand × IsText n which × (1 ≤ n) × (which ≤ 6) ⌝ }
     ensures { λ r. ⌜ Passes (now (text .entry)) n hand (now (texts .entry)) r (now (texts .exit)) ⌝ }
 {
     match hand {
         Hand::Refused { number, place } => Hand::Refused { number: number, place: place },
         Hand::At { from: _, kind: _, start: _, end, long: _, key } => {
             if key == n {
-                return read_heading(text, table, end, which, texts);
+                return read_heading(text, end, which, texts);
             }
             hand
         }
@@ -163,11 +162,11 @@ fn number_shape(text: &[u8], kind: u8, start: usize, end: usize, long: bool) -> 
 }
 
 // Behind its second colon; some: whether a number stands before.
-fn read_bare3(text: &[u8], table: &[u8; 256], from: usize, some: bool) -> Mark
-    requires { ⌜ (now table ≡ classes) × (from ≤ length (now text)) ⌝ }
+fn read_bare3(text: &[u8], from: usize, some: bool) -> Mark
+    requires { ⌜ from ≤ length (now text) ⌝ }
     ensures { λ r. ⌜ Skips (now (text .entry)) from (bare3 some) r ⌝ }
 {
-    let t = token_from(text, table, from);
+    let t = token_from(text, from);
     match t {
         Token::Stop { number, place } => Mark::Refused { number: number, place: place },
         Token::Got { kind, start, end, long } => {
@@ -179,7 +178,7 @@ fn read_bare3(text: &[u8], table: &[u8; 256], from: usize, some: bool) -> Mark
             }
             let n = number_shape(text, kind, start, end, long);
             if n == 0 {
-                return expect(text, table, end, 3);
+                return expect(text, end, 3);
             }
             Mark::Refused { number: n, place: start }
         }
@@ -187,26 +186,26 @@ fn read_bare3(text: &[u8], table: &[u8; 256], from: usize, some: bool) -> Mark
 }
 
 // Behind its first colon.
-fn read_bare2(text: &[u8], table: &[u8; 256], from: usize, some: bool) -> Mark
-    requires { ⌜ (now table ≡ classes) × (from ≤ length (now text)) ⌝ }
+fn read_bare2(text: &[u8], from: usize, some: bool) -> Mark
+    requires { ⌜ from ≤ length (now text) ⌝ }
     ensures { λ r. ⌜ Skips (now (text .entry)) from (bare2 some) r ⌝ }
 {
-    let t = token_from(text, table, from);
+    let t = token_from(text, from);
     match t {
         Token::Stop { number, place } => Mark::Refused { number: number, place: place },
         Token::Got { kind, start, end, long } => {
             if kind == 4 {
-                return read_bare3(text, table, end, some);
+                return read_bare3(text, end, some);
             }
             let n = number_shape(text, kind, start, end, long);
             if n == 0 {
-                let m = expect(text, table, end, 4);
+                let m = expect(text, end, 4);
                 match m {
                     Mark::Refused { number, place } => {
                         return Mark::Refused { number: number, place: place };
                     }
                     Mark::At(behind) => {
-                        return read_bare3(text, table, behind, true);
+                        return read_bare3(text, behind, true);
                     }
                 }
             }
@@ -216,11 +215,11 @@ fn read_bare2(text: &[u8], table: &[u8; 256], from: usize, some: bool) -> Mark
 }
 
 // Behind its first number.
-fn read_bare1(text: &[u8], table: &[u8; 256], from: usize) -> Mark
-    requires { ⌜ (now table ≡ classes) × (from ≤ length (now text)) ⌝ }
+fn read_bare1(text: &[u8], from: usize) -> Mark
+    requires { ⌜ from ≤ length (now text) ⌝ }
     ensures { λ r. ⌜ Skips (now (text .entry)) from bare1 r ⌝ }
 {
-    let t = token_from(text, table, from);
+    let t = token_from(text, from);
     match t {
         Token::Stop { number, place } => Mark::Refused { number: number, place: place },
         Token::Got { kind, start, end, long: _ } => {
@@ -228,7 +227,7 @@ fn read_bare1(text: &[u8], table: &[u8; 256], from: usize) -> Mark
                 return Mark::At(end);
             }
             if kind == 4 {
-                return read_bare2(text, table, end, true);
+                return read_bare2(text, end, true);
             }
             Mark::Refused { number: 4, place: start }
         }
@@ -236,20 +235,20 @@ fn read_bare1(text: &[u8], table: &[u8; 256], from: usize) -> Mark
 }
 
 // A bare number or triple, behind its entry's keyword.
-fn read_bare(text: &[u8], table: &[u8; 256], from: usize) -> Mark
-    requires { ⌜ (now table ≡ classes) × (from ≤ length (now text)) ⌝ }
+fn read_bare(text: &[u8], from: usize) -> Mark
+    requires { ⌜ from ≤ length (now text) ⌝ }
     ensures { λ r. ⌜ Skips (now (text .entry)) from bare r ⌝ }
 {
-    let t = token_from(text, table, from);
+    let t = token_from(text, from);
     match t {
         Token::Stop { number, place } => Mark::Refused { number: number, place: place },
         Token::Got { kind, start, end, long } => {
             if kind == 4 {
-                return read_bare2(text, table, end, false);
+                return read_bare2(text, end, false);
             }
             let n = number_shape(text, kind, start, end, long);
             if n == 0 {
-                return read_bare1(text, table, end);
+                return read_bare1(text, end);
             }
             Mark::Refused { number: n, place: start }
         }
@@ -257,21 +256,21 @@ fn read_bare(text: &[u8], table: &[u8; 256], from: usize) -> Mark
 }
 
 // An entry with a bare number or triple, if the token in hand is its keyword, n.
-pub fn pass_bare(text: &[u8], table: &[u8; 256], hand: Hand, n: u8) -> Hand
-    requires { ⌜ (now table ≡ classes) × InHand (now text) hand × IsBare n × (1 ≤ n) ⌝ }
+pub fn pass_bare(text: &[u8], hand: Hand, n: u8) -> Hand
+    requires { ⌜ InHand (now text) hand × IsBare n × (1 ≤ n) ⌝ }
     ensures { λ r. ⌜ PassesBare (now (text .entry)) n hand r ⌝ }
 {
     match hand {
         Hand::Refused { number, place } => Hand::Refused { number: number, place: place },
         Hand::At { from: _, kind: _, start: _, end, long: _, key } => {
             if key == n {
-                let m = read_bare(text, table, end);
+                let m = read_bare(text, end);
                 match m {
                     Mark::Refused { number, place } => {
                         return Hand::Refused { number: number, place: place };
                     }
                     Mark::At(behind) => {
-                        return take_opened(text, table, behind);
+                        return take_opened(text, behind);
                     }
                 }
             }
@@ -281,18 +280,18 @@ pub fn pass_bare(text: &[u8], table: &[u8; 256], hand: Hand, n: u8) -> Hand
 }
 
 // Behind its keyword.
-fn read_divider(text: &[u8], table: &[u8; 256], from: usize) -> Divided
-    requires { ⌜ (now table ≡ classes) × (from ≤ length (now text)) ⌝ }
+fn read_divider(text: &[u8], from: usize) -> Divided
+    requires { ⌜ from ≤ length (now text) ⌝ }
     ensures { λ r. ⌜ DividerRead (now (text .entry)) from (r .hand) (r .slash) ⌝ }
 {
-    let t = token_from(text, table, from);
+    let t = token_from(text, from);
     match t {
         Token::Stop { number, place } => Divided { hand: Hand::Refused { number: number, place: place }, slash: false },
         Token::Got { kind, start, end, long: _ } => {
             if kind == 7 {
                 let d = divider_of(&text[start..end]);
                 if 1 <= d {
-                    let hand = take_next(text, table, end);
+                    let hand = take_next(text, end);
                     return Divided { hand: hand, slash: d == 2 };
                 }
             }
@@ -302,15 +301,15 @@ fn read_divider(text: &[u8], table: &[u8; 256], from: usize) -> Divided
 }
 
 // DIVIDER, if the token in hand is its keyword; without it the divider is the dot.
-pub fn pass_divider(text: &[u8], table: &[u8; 256], hand: Hand) -> Divided
-    requires { ⌜ (now table ≡ classes) × InHand (now text) hand ⌝ }
+pub fn pass_divider(text: &[u8], hand: Hand) -> Divided
+    requires { ⌜ InHand (now text) hand ⌝ }
     ensures { λ r. ⌜ PassesDivider (now (text .entry)) hand (r .hand) (r .slash) ⌝ }
 {
     match hand {
         Hand::Refused { number, place } => Divided { hand: Hand::Refused { number: number, place: place }, slash: false },
         Hand::At { from: _, kind: _, start: _, end, long: _, key } => {
             if key == 48 {
-                return read_divider(text, table, end);
+                return read_divider(text, end);
             }
             Divided { hand: hand, slash: false }
         }

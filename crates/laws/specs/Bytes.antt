@@ -13,7 +13,8 @@ use lib.ListN.{length, drop, getD, length-drop}
 use lib.Seq.{getD-drop}
 use borrow.Author.Tests.{leb-true, leb-false, le-leb, eqb-true, eqb-false, ltb-true, ltb-false, not-true, not-false}
 use Rattle.classes.specs.Choice.{pick, and, within}
-use Rattle.classes.specs.Classes.{classOf, isWhite, isPlain}
+use Rattle.classes.specs.Classes.{classOf}
+use Rattle.classes.specs.ClassLaws.{class-most, printable-legal}
 use Rattle.scanning.specs.Scan.{scanLen, scanSt, turn, stopped}
 use Rattle.scanning.specs.Machines.{
   commences,
@@ -54,36 +55,6 @@ Bare s q = (q < length s) × (classOf (getD s q 0) ≡ 11) × (within 33 126 (ge
 abbrev pub Illegal : List ℕ → ℕ → Type 0
 Illegal s q = (q < length s) × (classOf (getD s q 0) ≡ 0)
 
-abbrev In : ℕ → Type 0
-In n = (1 ≤ n) × (n ≤ 12)
-
-one-of : (v : Bool) {x y : ℕ} → In x → In y → In (pick v x y)
-one-of true f g = f
-one-of false f g = g
-
-is : (n : ℕ) → leb 1 n ≡ true → leb n 12 ≡ true → In n
-is n e f = (leb-true 1 n e, leb-true n 12 f)
-
--- the classes of the bytes from 0x20 to 0x7E
-printable : (b₁ b₂ b₃ b₄ b₅ b₆ b₇ b₈ b₉ b₀ : Bool) →
-    In (pick b₁ 2 (pick b₂ 3 (pick b₃ 4 (pick b₄ 5 (pick b₅ 6 (pick b₆ 7 (pick b₇ 8 (pick b₈ 9 (pick b₉ 10 (pick b₀ 11 12))))))))))
-printable b₁ b₂ b₃ b₄ b₅ b₆ b₇ b₈ b₉ b₀ =
-    one-of b₁ (is 2 refl refl) (one-of b₂ (is 3 refl refl) (one-of b₃ (is 4 refl refl) (one-of b₄ (is 5 refl refl) (one-of b₅ (is 6 refl refl)
-    (one-of b₆ (is 7 refl refl)
-    (one-of b₇ (is 8 refl refl)
-    (one-of b₈ (is 9 refl refl) (one-of b₉ (is 10 refl refl) (one-of b₀ (is 11 refl refl) (is 12 refl refl))))))))))
-
-by-range : (white print : Bool) (x : ℕ) → In x → (pick white 1 (pick print x 0) ≤ 12) × (print ≡ true → pick white 1 (pick print x 0) ≡ 0 → ⊥)
-by-range true p x (l, u) = (omega arith, λ e f. omega arith)
-by-range false true x (l, u) = (u, λ e f. omega arith)
-by-range false false x (l, u) = (zero-le, λ e f. true≢false (sym e))
-
-class-range : (c : ℕ) → (classOf c ≤ 12) × (within 32 126 c ≡ true → Legal c)
-unfolding classOf
-class-range c =
-    by-range (isWhite c) (within 32 126 c) _
-    (printable (eqb c 40) (eqb c 41) (eqb c 58) (eqb c 42) (eqb c 34) (isPlain c) (eqb c 47) (eqb c 91) (eqb c 93) (eqb c 92))
-
 within-on : (c : ℕ) → within 33 126 c ≡ true → within 32 126 c ≡ true
 within-on c h = by (leb 33 c) (leb c 126) refl h
   where
@@ -93,7 +64,7 @@ within-on c h = by (leb 33 c) (leb c 126) refl h
 
 -- a byte that may be escaped is legal
 escaped-legal : (c : ℕ) → within 33 126 c ≡ true → Legal c
-escaped-legal c h = class-range c .1 (within-on c h)
+escaped-legal c h = printable-legal c (within-on c h)
 
 -- every byte that a scanner takes is one that does not stop it
 module _ {St : Type 0} (stop : St → ℕ → ℕ → Bool) (next : St → ℕ → ℕ → St) (ok : (q : St) (c d : ℕ) → stop q c d ≡ false → Legal c) where
@@ -307,7 +278,7 @@ module _ (s : List ℕ) (p : ℕ) (h : p ≤ length s) where
       let d = getD s (blankEnd s p + 1) 0 in
       let e = halted l in
       let f = rw (eqb-true (blankAt s p .mode) 0 m) at e in
-      let (x, y) = backslash k d (leb-false k 5 a) (class-range (getD s (blankEnd s p) 0) .0) (eqb-false k 6 b) (eqb-false k 12 c)
+      let (x, y) = backslash k d (leb-false k 5 a) (class-most (getD s (blankEnd s p) 0)) (eqb-false k 6 b) (eqb-false k 12 c)
       (halts (wordHalts 0 (getD s (blankEnd s p) 0) d) refl) f in
       (l, x, y)
     where

@@ -3,14 +3,12 @@ ghost use mathlib.Core.Path.{_≡_};
 ghost use mathlib.Core.Bool.{true, false};
 ghost use Prim.Native.Nat.{_*_, _-_, _/_, _≤_, _<_};
 ghost use lib.ListN.{length};
-ghost use Rattle.classes.specs.Classes.{classes};
 ghost use Rattle.readcells.specs.Files.{FileIs};
 ghost use Rattle.onecell.specs.One.{OneRead};
 ghost use Rattle.grammar.specs.Outcome.{readCell};
 use grammar::Hand;
 use grammar::ReadBody;
 use values::wrong_at;
-use classes::class_table;
 use headsteps::take_opened;
 use readcells::Answer;
 use readcells::FileRead;
@@ -21,7 +19,6 @@ const LIMIT: usize = 16777216;
 // One pass through a text that is to be one cell.
 fn one_cell(
     text: &[u8],
-    table: &[u8; 256],
     slash: bool,
     unit: u8,
     fill: bool,
@@ -30,10 +27,10 @@ fn one_cell(
     cells: &mut [u64],
     entries: &mut [u64],
 ) -> Answer
-    requires { ⌜ (now table ≡ classes) × (7 * cellroom ≤ length (now cells)) × (28 * entryroom ≤ length (now entries)) ⌝ }
+    requires { ⌜ (7 * cellroom ≤ length (now cells)) × (28 * entryroom ≤ length (now entries)) ⌝ }
     ensures { λ r. ⌜ OneRead (now (text .entry)) slash unit fill cellroom entryroom (now (cells .entry)) (now (cells .exit)) (now (entries .entry)) (now (entries .exit)) r ⌝ }
 {
-    let hand = take_opened(text, table, 0);
+    let hand = take_opened(text, 0);
     match hand {
         Hand::Refused { number, place } => Answer::Refused { number: number, place: place },
         Hand::At { from: _, kind, start, end, long: _, key } => {
@@ -44,10 +41,10 @@ fn one_cell(
             if cellroom == 0 {
                 return Answer::Refused { number: 9, place: start };
             }
-            let tail = readcells::read_tail(text, table, end, start, slash, unit, entryroom, fill, 0, 0, cells, entries);
+            let tail = readcells::read_tail(text, end, start, slash, unit, entryroom, fill, 0, 0, cells, entries);
             match tail {
                 ReadBody::Refused { number, place } => Answer::Refused { number: number, place: place },
-                ReadBody::Done { end: behind, count } => readcells::finish(text, table, behind, 1, count),
+                ReadBody::Done { end: behind, count } => readcells::finish(text, behind, 1, count),
             }
         }
     }
@@ -61,14 +58,13 @@ pub fn read_cell(text: &[u8], slash: bool, unit: u8, cells: &mut [u64], entries:
     if LIMIT < text.len() {
         return readcells::refused(1, 0);
     }
-    let table = class_table();
     let cellroom = cells.len() / 7;
     let entryroom = entries.len() / 28;
-    let first = one_cell(text, &table, slash, unit, false, cellroom, entryroom, cells, entries);
+    let first = one_cell(text, slash, unit, false, cellroom, entryroom, cells, entries);
     match first {
         Answer::Refused { number, place } => readcells::refused(number, place),
         Answer::Read { cells: n, entries: m } => {
-            one_cell(text, &table, slash, unit, true, cellroom, entryroom, cells, entries);
+            one_cell(text, slash, unit, true, cellroom, entryroom, cells, entries);
             FileRead { answer: Answer::Read { cells: n, entries: m }, slash: slash, unit: unit, texts: [0usize; 14] }
         }
     }

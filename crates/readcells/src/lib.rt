@@ -4,14 +4,13 @@ ghost use mathlib.Core.Bool.{true, false};
 ghost use Prim.Native.Nat.{_+_, _*_, _-_, _≤_};
 ghost use lib.ListN.{length, replicate};
 ghost use Rattle.classes.specs.Choice.{pick};
-ghost use Rattle.classes.specs.Classes.{classes};
 ghost use Rattle.rules.specs.Contracts.{InHand};
 ghost use Rattle.tables.specs.Layout.{cellRow};
 ghost use Rattle.tables.specs.Pastes.{put};
 ghost use Rattle.readcells.specs.Whole.{TailRead, MoreRead, EndRead};
 ghost use Rattle.readcells.specs.Left.{CellsRead, Finished};
 use tokenforms::Token;
-use tokens::token_from;
+use tokenforms::token_from;
 use grammar::Cell;
 use grammar::Mark;
 use grammar::Hand;
@@ -49,7 +48,6 @@ fn note_cell(cells: &mut [u64], row: usize, fill: bool, c: Cell)
 // A cell behind its keyword, which stands at place.
 pub fn read_tail(
     text: &[u8],
-    table: &[u8; 256],
     from: usize,
     place: usize,
     slash: bool,
@@ -61,14 +59,14 @@ pub fn read_tail(
     cells: &mut [u64],
     entries: &mut [u64],
 ) -> ReadBody
-    requires { ⌜ (now table ≡ classes) × (from ≤ length (now text)) × (28 * (row + room) ≤ length (now entries)) × (7 * cell + 7 ≤ length (now cells)) ⌝ }
+    requires { ⌜ (from ≤ length (now text)) × (28 * (row + room) ≤ length (now entries)) × (7 * cell + 7 ≤ length (now cells)) ⌝ }
     ensures { λ r. ⌜ TailRead (now (text .entry)) from slash unit room place fill cell (now (cells .entry)) (now (cells .exit)) row (now (entries .entry)) (now (entries .exit)) r ⌝ }
 {
-    let head = cell_head(text, table, from, slash);
+    let head = cell_head(text, from, slash);
     match head {
         CellHead::Refused { number, place: at } => ReadBody::Refused { number: number, place: at },
         CellHead::Head { typefrom, typeto, sort, pathfrom, pathto, end } => {
-            let body = read_body(text, table, end, slash, unit, room, fill, row, entries);
+            let body = read_body(text, end, slash, unit, room, fill, row, entries);
             match body {
                 ReadBody::Refused { number, place: at } => ReadBody::Refused { number: number, place: at },
                 ReadBody::Done { end: behind, count } => {
@@ -90,11 +88,11 @@ pub fn read_tail(
 }
 
 // Behind a cell.
-fn cell_more(text: &[u8], table: &[u8; 256], from: usize, slash: bool) -> More
-    requires { ⌜ (now table ≡ classes) × (from ≤ length (now text)) ⌝ }
+fn cell_more(text: &[u8], from: usize, slash: bool) -> More
+    requires { ⌜ from ≤ length (now text) ⌝ }
     ensures { λ r. ⌜ MoreRead (now (text .entry)) from slash r ⌝ }
 {
-    let t = token_from(text, table, from);
+    let t = token_from(text, from);
     match t {
         Token::Stop { number, place } => More::Refused { number: number, place: place },
         Token::Got { kind, start, end, long: _ } => {
@@ -102,7 +100,7 @@ fn cell_more(text: &[u8], table: &[u8; 256], from: usize, slash: bool) -> More
                 return More::Last(end);
             }
             if kind == 2 {
-                let hand = take(text, table, end);
+                let hand = take(text, end);
                 return More::Next(hand);
             }
             More::Refused { number: 4, place: start }
@@ -111,11 +109,11 @@ fn cell_more(text: &[u8], table: &[u8; 256], from: usize, slash: bool) -> More
 }
 
 // The text's end, behind which nothing may stand.
-fn text_end(text: &[u8], table: &[u8; 256], from: usize) -> Mark
-    requires { ⌜ (now table ≡ classes) × (from ≤ length (now text)) ⌝ }
+fn text_end(text: &[u8], from: usize) -> Mark
+    requires { ⌜ from ≤ length (now text) ⌝ }
     ensures { λ r. ⌜ EndRead (now (text .entry)) from r ⌝ }
 {
-    let t = token_from(text, table, from);
+    let t = token_from(text, from);
     match t {
         Token::Got { kind: _, start, end: _, long: _ } => Mark::Refused { number: 4, place: start },
         Token::Stop { number, place } => {
@@ -128,11 +126,11 @@ fn text_end(text: &[u8], table: &[u8; 256], from: usize) -> Mark
 }
 
 // The answer behind the file's closing bracket, of n cells with m entries.
-pub fn finish(text: &[u8], table: &[u8; 256], from: usize, n: usize, m: usize) -> Answer
-    requires { ⌜ (now table ≡ classes) × (from ≤ length (now text)) ⌝ }
+pub fn finish(text: &[u8], from: usize, n: usize, m: usize) -> Answer
+    requires { ⌜ from ≤ length (now text) ⌝ }
     ensures { λ r. ⌜ Finished (now (text .entry)) from n m r ⌝ }
 {
-    let last = text_end(text, table, from);
+    let last = text_end(text, from);
     match last {
         Mark::Refused { number, place } => Answer::Refused { number: number, place: place },
         Mark::At(_) => Answer::Read { cells: n, entries: m },
@@ -142,7 +140,6 @@ pub fn finish(text: &[u8], table: &[u8; 256], from: usize, n: usize, m: usize) -
 // All cells, from the first one's keyword in hand to the text's end. There is room for so many cells and entries.
 pub fn read_cells(
     text: &[u8],
-    table: &[u8; 256],
     lead: Hand,
     slash: bool,
     unit: u8,
@@ -152,7 +149,7 @@ pub fn read_cells(
     cells: &mut [u64],
     entries: &mut [u64],
 ) -> Answer
-    requires { ⌜ (now table ≡ classes) × InHand (now text) lead × (7 * cellroom ≤ length (now cells)) × (28 * entryroom ≤ length (now entries)) ⌝ }
+    requires { ⌜ InHand (now text) lead × (7 * cellroom ≤ length (now cells)) × (28 * entryroom ≤ length (now entries)) ⌝ }
     ensures { λ r. ⌜ CellsRead (now (text .entry)) lead slash unit cellroom entryroom fill (now (cells .entry)) (now (cells .exit)) (now (entries .entry)) (now (entries .exit)) r ⌝ }
 {
     let mut hand = lead;
@@ -171,7 +168,7 @@ pub fn read_cells(
                 if n == cellroom {
                     return Answer::Refused { number: 9, place: start };
                 }
-                let tail = read_tail(text, table, end, start, slash, unit, entryroom - m, fill, n, m, cells, entries);
+                let tail = read_tail(text, end, start, slash, unit, entryroom - m, fill, n, m, cells, entries);
                 match tail {
                     ReadBody::Refused { number, place } => {
                         return Answer::Refused { number: number, place: place };
@@ -179,13 +176,13 @@ pub fn read_cells(
                     ReadBody::Done { end: behind, count } => {
                         n += 1;
                         m += count;
-                        let more = cell_more(text, table, behind, slash);
+                        let more = cell_more(text, behind, slash);
                         match more {
                             More::Refused { number, place } => {
                                 return Answer::Refused { number: number, place: place };
                             }
                             More::Last(e) => {
-                                return finish(text, table, e, n, m);
+                                return finish(text, e, n, m);
                             }
                             More::Next(h) => {
                                 hand = h;

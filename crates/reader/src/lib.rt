@@ -3,10 +3,8 @@ ghost use mathlib.Core.Path.{_≡_};
 ghost use mathlib.Core.Bool.{true, false};
 ghost use Prim.Native.Nat.{_*_, _-_, _/_, _≤_, _<_};
 ghost use lib.ListN.{length};
-ghost use Rattle.classes.specs.Classes.{classes};
 ghost use Rattle.readcells.specs.Files.{AllRead, FileIs};
 ghost use Rattle.grammar.specs.Outcome.{readFile};
-use classes::class_table;
 use header::read_header;
 use readcells::Answer;
 use readcells::FileRead;
@@ -24,7 +22,6 @@ pub struct Pass {
 // One pass through a whole file.
 fn read_all(
     text: &[u8],
-    table: &[u8; 256],
     fill: bool,
     cellroom: usize,
     entryroom: usize,
@@ -32,14 +29,14 @@ fn read_all(
     entries: &mut [u64],
     texts: &mut [usize; 14],
 ) -> Pass
-    requires { ⌜ (now table ≡ classes) × (7 * cellroom ≤ length (now cells)) × (28 * entryroom ≤ length (now entries)) ⌝ }
+    requires { ⌜ (7 * cellroom ≤ length (now cells)) × (28 * entryroom ≤ length (now entries)) ⌝ }
     ensures { λ r. ⌜ AllRead (now (text .entry)) fill cellroom entryroom (now (cells .entry)) (now (cells .exit)) (now (entries .entry)) (now (entries .exit)) (now (texts .entry)) (now (texts .exit)) (r .slash) (r .unit) (r .answer) ⌝ }
 {
-    let head = read_header(text, table, texts);
+    let head = read_header(text, texts);
     let hand = head.hand;
     let slash = head.slash;
     let unit = head.unit;
-    let answer = readcells::read_cells(text, table, hand, slash, unit, fill, cellroom, entryroom, cells, entries);
+    let answer = readcells::read_cells(text, hand, slash, unit, fill, cellroom, entryroom, cells, entries);
     Pass { answer: answer, slash: slash, unit: unit }
 }
 
@@ -51,17 +48,16 @@ pub fn read_file(text: &[u8], cells: &mut [u64], entries: &mut [u64]) -> FileRea
     if LIMIT < text.len() {
         return readcells::refused(1, 0);
     }
-    let table = class_table();
     let cellroom = cells.len() / 7;
     let entryroom = entries.len() / 28;
     let mut texts = [0usize; 14];
-    let first = read_all(text, &table, false, cellroom, entryroom, cells, entries, &mut texts);
+    let first = read_all(text, false, cellroom, entryroom, cells, entries, &mut texts);
     let answer = first.answer;
     match answer {
         Answer::Refused { number, place } => readcells::refused(number, place),
         Answer::Read { cells: n, entries: m } => {
             let mut again = [0usize; 14];
-            read_all(text, &table, true, cellroom, entryroom, cells, entries, &mut again);
+            read_all(text, true, cellroom, entryroom, cells, entries, &mut again);
             let slash = first.slash;
             let unit = first.unit;
             FileRead { answer: Answer::Read { cells: n, entries: m }, slash: slash, unit: unit, texts: texts }

@@ -1,2 +1,4 @@
 pub mod Scan
 pub mod Machines
+pub mod Runs
+pub mod RunLaws

@@ -2,11 +2,15 @@
 ghost use mathlib.Core.Path.{_≡_};
 ghost use Prim.Native.Nat.{_+_, _≤_, _<_};
 ghost use lib.ListN.{length, getD, drop};
-ghost use Rattle.classes.specs.Classes.{classes};
+ghost use Rattle.classes.specs.Classes.{classOf};
 ghost use Rattle.scanning.specs.Scan.{scanLen};
-ghost use Rattle.scanning.specs.Machines.{wordStop, wordNext, wordEnd, blankStop, modeNext, sinceNext, textStop, closeStop, textNext, textGoes, closeHalts};
-ghost use Rattle.scanning.specs.Machines.{blankEnd, blankAt};
+ghost use Rattle.scanning.specs.Machines.{wordHalts, wordEnd, blankStop, modeNext, sinceNext, textStop, closeStop, textNext, textGoes, closeHalts};
+ghost use Rattle.scanning.specs.Runs.{PlainTo, WhiteTo, SkippedTo, commented, bracketed, widthOf};
 use classes::class_of;
+use classes::is_within;
+use classes::is_plain;
+use classes::is_white;
+use classes::is_legal;
 
 // White space and comments: where in them one stands.
 pub struct Blank {
@@ -27,67 +31,14 @@ pub fn peek(text: &[u8], i: usize) -> u8
     if i < text.len() { text[i] } else { 0 }
 }
 
-fn word_stop(state: u8, class: u8, behind: u8) -> bool
-    ensures { λ r. ⌜ r ≡ wordStop state class behind ⌝ }
-{
-    if 2 <= state {
-        return false;
-    }
-    if class == 7 {
-        return false;
-    }
-    if class == 9 {
-        return false;
-    }
-    if class == 10 {
-        return false;
-    }
-    if class == 8 {
-        if behind == 47 {
-            return true;
-        }
-        return behind == 42;
-    }
-    if class == 11 {
-        if 33 <= behind {
-            return !(behind <= 126);
-        }
-        return true;
-    }
-    if class == 4 {
-        return state == 0;
-    }
-    true
-}
-
-fn word_next(state: u8, class: u8) -> u8
-    requires { ⌜ state < 4 ⌝ }
-    ensures { λ r. ⌜ (r ≡ wordNext state class) × (r < 4) ⌝ }
-{
-    if 2 <= state {
-        return state - 2;
-    }
-    if class == 9 {
-        return 1;
-    }
-    if class == 10 {
-        return 0;
-    }
-    if class == 11 {
-        return state + 2;
-    }
-    state
-}
-
-// Past the plain bytes from a place on: a word's end is the same from there.
-pub fn plain_end(text: &[u8], table: &[u8; 256], from: usize) -> usize
-    requires { ⌜ now table ≡ classes ⌝ }
+// Past the plain bytes from a place on: a word goes on over them, outside brackets and inside.
+pub fn plain_end(text: &[u8], from: usize) -> usize
     requires { ⌜ from ≤ length (now text) ⌝ }
-    ensures { λ r. ⌜ (wordEnd (now (text .entry)) r ≡ wordEnd (now (text .entry)) from) × (r ≤ length (now (text .entry))) × (from ≤ r) ⌝ }
+    ensures { λ r. ⌜ PlainTo (now (text .entry)) from r ⌝ }
 {
     let mut i = from;
     while i < text.len() {
-        if class_of(table, text[i]) != 7 {
+        if !is_plain(text[i]) {
             return i;
         }
         i += 1;
@@ -95,23 +46,61 @@ pub fn plain_end(text: &[u8], table: &[u8; 256], from: usize) -> usize
     i
 }
 
-pub fn word_end(text: &[u8], table: &[u8; 256], from: usize) -> usize
-    requires { ⌜ now table ≡ classes ⌝ }
-    requires { ⌜ from ≤ length (now text) ⌝ }
-    ensures { λ r. ⌜ (r ≡ wordEnd (now (text .entry)) from) × (r ≤ length (now (text .entry))) ⌝ }
+// Whether a word ends before this byte, which is not plain.
+fn word_stop(state: u8, byte: u8, behind: u8) -> bool
+    requires { ⌜ (state < 2) × (classOf byte ≡ 7 → ⊥) ⌝ }
+    ensures { λ r. ⌜ r ≡ wordHalts state byte behind ⌝ }
 {
-    let mut i = plain_end(text, table, from);
+    match byte {
+        b'/' => behind == b'/' || behind == b'*',
+        b'\\' => !is_within(33, 126, behind),
+        b'[' | b']' => false,
+        b':' => state == 0,
+        _ => true,
+    }
+}
+
+// Whether a word is inside brackets behind this byte.
+fn word_next(state: u8, byte: u8) -> u8
+    requires { ⌜ state < 2 ⌝ }
+    ensures { λ r. ⌜ (r ≡ bracketed state byte) × (r < 2) ⌝ }
+{
+    match byte {
+        b'[' => 1,
+        b']' => 0,
+        _ => state,
+    }
+}
+
+// How many bytes a word takes: a backslash takes the next one along.
+fn word_step(byte: u8) -> usize
+    ensures { λ r. ⌜ r ≡ widthOf byte ⌝ }
+{
+    if byte == b'\\' {
+        return 2;
+    }
+    1
+}
+
+pub fn word_end(text: &[u8], from: usize) -> usize
+    requires { ⌜ from ≤ length (now text) ⌝ }
+    ensures { λ r. ⌜ (r ≡ wordEnd (now (text .entry)) from) × (r ≤ length (now (text .entry))) × (from ≤ r) ⌝ }
+{
+    let mut i = from;
     let mut state: u8 = 0;
-    while i < text.len() {
-        let class = class_of(table, text[i]);
-        let behind = peek(text, i + 1);
-        if word_stop(state, class, behind) {
+    loop {
+        i = plain_end(text, i);
+        if text.len() <= i {
             return i;
         }
-        state = word_next(state, class);
-        i += 1;
+        let byte = text[i];
+        let behind = peek(text, i + 1);
+        if word_stop(state, byte, behind) {
+            return i;
+        }
+        state = word_next(state, byte);
+        i += word_step(byte);
     }
-    i
 }
 
 fn blank_stop(mode: u8, class: u8, behind: u8) -> bool
@@ -179,14 +168,13 @@ fn since_next(mode: u8, since: usize) -> usize
 }
 
 // Past the white space from a place on: what follows is the same from there.
-pub fn white_end(text: &[u8], table: &[u8; 256], from: usize) -> usize
-    requires { ⌜ now table ≡ classes ⌝ }
+pub fn white_end(text: &[u8], from: usize) -> usize
     requires { ⌜ from ≤ length (now text) ⌝ }
-    ensures { λ r. ⌜ (blankEnd (now (text .entry)) r ≡ blankEnd (now (text .entry)) from) × (blankAt (now (text .entry)) r ≡ blankAt (now (text .entry)) from) × (r ≤ length (now (text .entry))) ⌝ }
+    ensures { λ r. ⌜ WhiteTo (now (text .entry)) from r ⌝ }
 {
     let mut i = from;
     while i < text.len() {
-        if class_of(table, text[i]) != 1 {
+        if !is_white(text[i]) {
             return i;
         }
         i += 1;
@@ -194,17 +182,29 @@ pub fn white_end(text: &[u8], table: &[u8; 256], from: usize) -> usize
     i
 }
 
-pub fn skip_blank(text: &[u8], table: &[u8; 256], from: usize) -> Skipped
-    requires { ⌜ now table ≡ classes ⌝ }
-    requires { ⌜ from ≤ length (now text) ⌝ }
-    ensures { λ r. ⌜ (r .place ≡ blankEnd (now (text .entry)) from) × (r .blank ≡ blankAt (now (text .entry)) from) × (r .blank .since ≤ r .place) × (r .place ≤ length (now (text .entry))) ⌝ }
+// Whether a comment begins here: // or /* .
+fn comment_at(text: &[u8], i: usize) -> bool
+    requires { ⌜ i ≤ length (now text) ⌝ }
+    ensures { λ r. ⌜ r ≡ commented (now (text .entry)) i ⌝ }
 {
-    let mut i = white_end(text, table, from);
+    if peek(text, i) == b'/' {
+        let behind = peek(text, i + 1);
+        return behind == b'/' || behind == b'*';
+    }
+    false
+}
+
+// Past white space and comments from a place on, byte by byte.
+fn skip_comments(text: &[u8], from: usize) -> Skipped
+    requires { ⌜ from ≤ length (now text) ⌝ }
+    ensures { λ r. ⌜ SkippedTo (now (text .entry)) from r ⌝ }
+{
+    let mut i = from;
     let mut mode: u8 = 0;
     let mut since: usize = 0;
     while i < text.len() {
         let byte = text[i];
-        let class = class_of(table, byte);
+        let class = class_of(byte);
         let behind = peek(text, i + 1);
         if blank_stop(mode, class, behind) {
             return Skipped {
@@ -228,50 +228,63 @@ pub fn skip_blank(text: &[u8], table: &[u8; 256], from: usize) -> Skipped
     }
 }
 
-fn close_stop(state: u8, class: u8) -> bool
-    ensures { λ r. ⌜ r ≡ closeStop state class ⌝ }
+// Past white space and comments from a place on. Where no comment begins, which is the rule, white space is all there is.
+pub fn skip_blank(text: &[u8], from: usize) -> Skipped
+    requires { ⌜ from ≤ length (now text) ⌝ }
+    ensures { λ r. ⌜ SkippedTo (now (text .entry)) from r ⌝ }
 {
-    if state == 0 {
-        return class == 6;
+    let i = white_end(text, from);
+    if comment_at(text, i) {
+        return skip_comments(text, i);
     }
-    false
+    Skipped {
+        place: i,
+        blank: Blank {
+            mode: 0,
+            since: 0,
+        },
+    }
 }
 
-pub fn text_stop(state: u8, class: u8) -> bool
-    ensures { λ r. ⌜ r ≡ textStop state class ⌝ }
+fn close_stop(state: u8, byte: u8) -> bool
+    ensures { λ r. ⌜ r ≡ closeStop state (classOf byte) ⌝ }
 {
-    if class == 0 {
-        return true;
-    }
-    close_stop(state, class)
+    state == 0 && byte == b'"'
 }
 
-pub fn text_next(state: u8, class: u8) -> u8
-    ensures { λ r. ⌜ r ≡ textNext state class ⌝ }
+pub fn text_stop(state: u8, byte: u8) -> bool
+    ensures { λ r. ⌜ r ≡ textStop state (classOf byte) ⌝ }
+{
+    if is_legal(byte) {
+        return close_stop(state, byte);
+    }
+    true
+}
+
+pub fn text_next(state: u8, byte: u8) -> u8
+    ensures { λ r. ⌜ r ≡ textNext state (classOf byte) ⌝ }
 {
     if state == 0 {
-        if class == 11 {
+        if byte == b'\\' {
             return 1;
         }
-        return 0;
     }
     0
 }
 
 // The quote that closes a string, from a place of its content on, with no regard to illegal bytes.
-pub fn close_end(text: &[u8], table: &[u8; 256], from: usize, begin: u8) -> usize
-    requires { ⌜ now table ≡ classes ⌝ }
+pub fn close_end(text: &[u8], from: usize, begin: u8) -> usize
     requires { ⌜ from ≤ length (now text) ⌝ }
     ensures { λ r. ⌜ (r ≡ from + scanLen closeHalts textGoes begin (drop from (now (text .entry)))) × (from ≤ r) ⌝ }
 {
     let mut i = from;
     let mut state = begin;
     while i < text.len() {
-        let class = class_of(table, text[i]);
-        if close_stop(state, class) {
+        let byte = text[i];
+        if close_stop(state, byte) {
             return i;
         }
-        state = text_next(state, class);
+        state = text_next(state, byte);
         i += 1;
     }
     i

@@ -10,36 +10,20 @@ use mathlib.Core.List.{List, [], _∷_, _++_, map, append-assoc}
 use lib.Dec.{eqb}
 use lib.ListN.{length, take, drop, getD, length-append, length-drop, take-append-drop}
 use lib.Seq.{append-snoc, split-at, length-take-le, drop-drop, getD-drop, take-length}
-use borrow.Author.Tests.{eqb-true}
-use Rattle.classes.specs.Choice.{pick, within}
-use Rattle.classes.specs.Classes.{classOf, isWhite, isPlain}
+use borrow.Author.Tests.{eqb-true, eq-eqb}
+use Rattle.classes.specs.Classes.{classOf}
+use Rattle.classes.specs.ClassLaws.{open-byte, close-byte}
 use Rattle.tokenforms.specs.declared.Token.the-variants.{Got}
 use Rattle.tokenforms.specs.Tokens.{tokenAt}
 use Rattle.tokens.specs.Stream.{Placed, part, stream, onwards}
 use Rattle.splice.specs.Along.{Goes, Bracket, stream-goes, goes-stream, goes-append, goes-split, token-starts, goes-seam, last-seam, part-front, part-behind, moveTok, goes-move, stream-move}
 
 -- the bytes of the two brackets
-number-is : {P : Type 0} (v : Bool) (x y z : ℕ) → (v ≡ true → x ≡ z → P) → (v ≡ false → y ≡ z → P) → pick v x y ≡ z → P
-number-is true x y z f g e = f refl e
-number-is false x y z f g e = g refl e
+opened : (o : ℕ) → classOf o ≡ 2 → o ≡ 40
+opened o h = eqb-true o 40 (sym (open-byte o) ∙ eq-eqb (classOf o) 2 h)
 
-byte-is : (o k : ℕ) → classOf o ≡ k → (k ≡ 2 → o ≡ 40) × (k ≡ 3 → o ≡ 41)
-unfolding classOf
-byte-is o k h =
-    number-is (isWhite o) 1 _ k (λ t g. (λ e. absurd (omega arith), λ e. absurd (omega arith)))
-    (λ t g. number-is (within 32 126 o) _ 0 k
-    (λ t g. number-is (eqb o 40) 2 _ k (λ t g. (λ e. eqb-true o 40 t, λ e. absurd (omega arith)))
-    (λ t g. number-is (eqb o 41) 3 _ k (λ t g. (λ e. absurd (omega arith), λ e. eqb-true o 41 t))
-    (λ t g. number-is (eqb o 58) 4 _ k (λ t g. (λ e. absurd (omega arith), λ e. absurd (omega arith)))
-    (λ t g. number-is (eqb o 42) 5 _ k (λ t g. (λ e. absurd (omega arith), λ e. absurd (omega arith)))
-    (λ t g. number-is (eqb o 34) 6 _ k (λ t g. (λ e. absurd (omega arith), λ e. absurd (omega arith)))
-    (λ t g. number-is (isPlain o) 7 _ k (λ t g. (λ e. absurd (omega arith), λ e. absurd (omega arith)))
-    (λ t g. number-is (eqb o 47) 8 _ k (λ t g. (λ e. absurd (omega arith), λ e. absurd (omega arith)))
-    (λ t g. number-is (eqb o 91) 9 _ k (λ t g. (λ e. absurd (omega arith), λ e. absurd (omega arith)))
-    (λ t g. number-is (eqb o 93) 10 _ k (λ t g. (λ e. absurd (omega arith), λ e. absurd (omega arith)))
-    (λ t g. number-is (eqb o 92) 11 12 k (λ t g. (λ e. absurd (omega arith), λ e. absurd (omega arith)))
-    (λ t g. (λ e. absurd (omega arith), λ e. absurd (omega arith))) g) g) g) g) g) g) g) g) g) g)
-    (λ t g. (λ e. absurd (omega arith), λ e. absurd (omega arith))) g) h
+closed : (o : ℕ) → classOf o ≡ 3 → o ≡ 41
+closed o h = eqb-true o 41 (sym (close-byte o) ∙ eq-eqb (classOf o) 3 h)
 
 opening : Bracket 40
 unfolding classOf
@@ -189,8 +173,8 @@ found s hs o ts c zs e ok ck =
       inside = goes-append s ts (c ∷ []) (o .end) q2 (c .end) g2 (g3, b3, refl);
       behind = rw (← n3) at i3;
       number = (rw (← n3) at j3) ∙ (j2 ∙ (j1' ∙ j));
-      first = byte-is _ _ (u0 ∙ ok) .0 refl;
-      last = byte-is _ _ (v0 ∙ ck) .1 refl;
+      first = opened _ (u0 ∙ ok);
+      last = closed _ (v0 ∙ ck);
       one = u1;
       short = u2;
       single = v1;

@@ -1,12 +1,13 @@
 // The forms of tokens (document 01, 'Bytes and words'): quoted texts, comments, and which token stands at a place.
 ghost use mathlib.Core.Path.{_≡_};
+ghost use mathlib.Core.Bool.{false};
 ghost use Prim.Native.Nat.{_+_, _≤_, _<_};
 ghost use lib.ListN.{length, drop};
-ghost use Rattle.classes.specs.Classes.{classes};
 ghost use Rattle.scanning.specs.Scan.{scanSt};
-ghost use Rattle.scanning.specs.Machines.{textHalts, textGoes, blockHalts};
+ghost use Rattle.scanning.specs.Machines.{wordEnd, textHalts, textGoes, blockHalts};
 ghost use Rattle.tokenforms.specs.Tokens.{tokenHere, stringAt, tokenAt, spoilt, blockEnd};
 use classes::class_of;
+use classes::mark_of;
 
 // What stands at a place of a text.
 pub enum Token {
@@ -32,22 +33,21 @@ pub struct Content {
 }
 
 // The first illegal byte of a string's content, or the quote that closes it.
-fn text_end(text: &[u8], table: &[u8; 256], from: usize) -> Content
-    requires { ⌜ now table ≡ classes ⌝ }
+fn text_end(text: &[u8], from: usize) -> Content
     requires { ⌜ from ≤ length (now text) ⌝ }
     ensures { λ r. ⌜ (r .place ≡ spoilt (now (text .entry)) from) × (r .state ≡ scanSt textHalts textGoes 0 (drop from (now (text .entry)))) × (r .place ≤ length (now (text .entry))) × (from ≤ r .place) ⌝ }
 {
     let mut i = from;
     let mut state: u8 = 0;
     while i < text.len() {
-        let class = class_of(table, text[i]);
-        if scanning::text_stop(state, class) {
+        let byte = text[i];
+        if scanning::text_stop(state, byte) {
             return Content {
                 place: i,
                 state: state,
             };
         }
-        state = scanning::text_next(state, class);
+        state = scanning::text_next(state, byte);
         i += 1;
     }
     Content {
@@ -82,15 +82,14 @@ fn block_end(text: &[u8], from: usize) -> usize
 }
 
 // The string whose opening quote stands at i.
-fn string_at(text: &[u8], table: &[u8; 256], i: usize) -> Token
-    requires { ⌜ now table ≡ classes ⌝ }
+fn string_at(text: &[u8], i: usize) -> Token
     requires { ⌜ i < length (now text) ⌝ }
     ensures { λ r. ⌜ r ≡ stringAt (now (text .entry)) i ⌝ }
 {
-    let content = text_end(text, table, i + 1);
+    let content = text_end(text, i + 1);
     let e = content.place;
     let state = content.state;
-    let f = scanning::close_end(text, table, e, state);
+    let f = scanning::close_end(text, e, state);
     if text.len() <= f {
         return Token::Stop {
             number: 3,
@@ -114,9 +113,48 @@ fn string_at(text: &[u8], table: &[u8; 256], i: usize) -> Token
     }
 }
 
-// What stands at i, where no white space and no comment begins.
-fn token_here(text: &[u8], table: &[u8; 256], i: usize) -> Token
-    requires { ⌜ now table ≡ classes ⌝ }
+// A token of one byte.
+fn single(kind: u8, i: usize) -> Token
+    requires { ⌜ i < 18446744073709551615 ⌝ }
+    ensures { λ r. ⌜ r ≡ Token.Got kind i (i + 1) false ⌝ }
+{
+    Token::Got {
+        kind: kind,
+        start: i,
+        end: i + 1,
+        long: false,
+    }
+}
+
+// What stands at i, where no word begins.
+fn other_here(text: &[u8], i: usize) -> Token
+    requires { ⌜ (i < length (now text)) × (wordEnd (now text) i ≤ i) ⌝ }
+    ensures { λ r. ⌜ r ≡ tokenHere (now (text .entry)) i ⌝ }
+{
+    let class = class_of(text[i]);
+    if class == 0 {
+        return Token::Stop {
+            number: 2,
+            place: i,
+        };
+    }
+    if class <= 5 {
+        return single(class, i);
+    }
+    if class == 6 {
+        return string_at(text, i);
+    }
+    if class == 12 {
+        return single(class, i);
+    }
+    Token::Stop {
+        number: 2,
+        place: i,
+    }
+}
+
+// What stands at i, where no white space and no comment begins: as a rule a mark or a word.
+fn token_here(text: &[u8], i: usize) -> Token
     requires { ⌜ i ≤ length (now text) ⌝ }
     ensures { λ r. ⌜ r ≡ tokenHere (now (text .entry)) i ⌝ }
 {
@@ -126,60 +164,34 @@ fn token_here(text: &[u8], table: &[u8; 256], i: usize) -> Token
             place: i,
         };
     }
-    let class = class_of(table, text[i]);
-    if class == 0 {
-        return Token::Stop {
-            number: 2,
-            place: i,
-        };
+    let mark = mark_of(text[i]);
+    if mark != 0 {
+        return single(mark, i);
     }
-    if class <= 5 {
+    let e = scanning::word_end(text, i);
+    if i < e {
         return Token::Got {
-            kind: class,
+            kind: 7,
             start: i,
-            end: i + 1,
-            long: false,
+            end: e,
+            long: 1024 < e - i,
         };
     }
-    if class == 6 {
-        return string_at(text, table, i);
-    }
-    if class == 12 {
-        return Token::Got {
-            kind: class,
-            start: i,
-            end: i + 1,
-            long: false,
-        };
-    }
-    let e = scanning::word_end(text, table, i);
-    if e <= i {
-        return Token::Stop {
-            number: 2,
-            place: i,
-        };
-    }
-    Token::Got {
-        kind: 7,
-        start: i,
-        end: e,
-        long: 1024 < e - i,
-    }
+    other_here(text, i)
 }
 
-// Any token from a place on.
-pub fn token_any(text: &[u8], table: &[u8; 256], from: usize) -> Token
-    requires { ⌜ now table ≡ classes ⌝ }
+// The token from a place on.
+pub fn token_from(text: &[u8], from: usize) -> Token
     requires { ⌜ from ≤ length (now text) ⌝ }
     ensures { λ r. ⌜ r ≡ tokenAt (now (text .entry)) from ⌝ }
 {
-    let skipped = scanning::skip_blank(text, table, from);
+    let skipped = scanning::skip_blank(text, from);
     let i = skipped.place;
     let blank = skipped.blank;
     let mode = blank.mode;
     let since = blank.since;
     if mode == 0 {
-        return token_here(text, table, i);
+        return token_here(text, i);
     }
     if mode == 1 {
         if text.len() <= i {

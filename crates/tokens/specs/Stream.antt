@@ -3,7 +3,7 @@
 use Prim.Native.Nat.{ℕ, zero, suc, _+_, _-_, _≤_, _<_}
 use native.Mathlib.Nat.{not-suc-le-zero}
 use native.Mathlib.Omega.{arith}
-use mathlib.Core.Path.{_≡_, refl, ap, subst}
+use mathlib.Core.Path.{_≡_, refl, sym, ap, subst, _∙_}
 use mathlib.Core.Bool.{Bool, true, false}
 use mathlib.Core.List.{List, [], _∷_}
 use lib.Dec.{leb, ltb, eqb}
@@ -136,3 +136,26 @@ stream-turn s p h = by (tokenAt s p) refl
 abbrev pub count : List Placed → ℕ
 count [] = 0
 count (t ∷ ts) = suc (count ts)
+
+-- where a token ends; 0 for what is none
+abbrev pub endOf : Token → ℕ
+endOf (Got k b e l) = e
+endOf (Stop n q) = 0
+
+-- so many tokens are left behind one that ends at e, and none where there is none
+pub count-one : (s : List ℕ) (p e : ℕ) → p ≤ length s → e ≡ endOf (tokenAt s p) → (e ≡ 0 → ⊥)
+    → (count (stream s p .toks) ≡ suc (count (stream s e .toks))) × (p < e) × (e ≤ length s)
+count-one s p e h q n = by (tokenAt s p) refl q
+  where
+    by : (t : Token) → tokenAt s p ≡ t → e ≡ endOf t → (count (stream s p .toks) ≡ suc (count (stream s e .toks))) × (p < e) × (e ≤ length s)
+    by (Got k b f l) t z =
+        let w = onwards s p k b f l h t in
+        (ap (λ r. count (r .toks)) (stream-turn s p h) ∙ ap (λ x. count (onward s x (stream s) .toks)) t ∙ ap (λ x. suc (count (stream s x .toks))) (sym z), omega arith, omega arith)
+    by (Stop m r) t z = absurd (n z)
+
+pub count-none : (s : List ℕ) (p : ℕ) → p ≤ length s → 0 ≡ endOf (tokenAt s p) → count (stream s p .toks) ≡ 0
+count-none s p h q = by (tokenAt s p) refl q
+  where
+    by : (t : Token) → tokenAt s p ≡ t → 0 ≡ endOf t → count (stream s p .toks) ≡ 0
+    by (Got k b f l) t z = let w = onwards s p k b f l h t in absurd (omega arith)
+    by (Stop m r) t z = ap (λ r. count (r .toks)) (stream-turn s p h) ∙ ap (λ x. count (onward s x (stream s) .toks)) t

@@ -4,7 +4,6 @@ ghost use mathlib.Core.Path.{_≡_};
 ghost use mathlib.Core.Bool.{true, false};
 ghost use Prim.Native.Nat.{_+_, _-_, _≤_, _<_};
 ghost use lib.ListN.{length, take};
-ghost use Rattle.classes.specs.Classes.{classes};
 ghost use Rattle.tokens.specs.Stream.{placed};
 ghost use Rattle.grammar.specs.Ll.{non};
 ghost use Rattle.grammar.specs.Grammar.{third};
@@ -12,7 +11,7 @@ ghost use Rattle.grammar.specs.Meaning.{wrongly};
 ghost use Rattle.rules.specs.Contracts.{refusalOf, NumberHere, Marked, Reads, ReadsValue, OpensValue, ReadsValues, OpensValues};
 ghost use Rattle.values.specs.Parts.{LeadRead, FirstRead, MiddleRead};
 use tokenforms::Token;
-use tokens::token_from;
+use tokenforms::token_from;
 use tokens::mark_from;
 use words::key_of;
 use numbershape::Number;
@@ -85,18 +84,18 @@ fn number_here(
 }
 
 // A mark where it is expected.
-pub fn expect(text: &[u8], table: &[u8; 256], from: usize, mark: u8) -> Mark
-    requires { ⌜ (now table ≡ classes) × (from ≤ length (now text)) ⌝ }
+pub fn expect(text: &[u8], from: usize, mark: u8) -> Mark
+    requires { ⌜ from ≤ length (now text) ⌝ }
     ensures { λ r. ⌜ Marked (now (text .entry)) from mark r ⌝ }
 {
-    let m = mark_from(text, table, from);
+    let m = mark_from(text, from);
     let i = m.place;
     if m.kind == mark {
         if 2 <= mark {
             return Mark::At(i + 1);
         }
     }
-    let t = token_from(text, table, i);
+    let t = token_from(text, i);
     match t {
         Token::Stop { number, place } => Mark::Refused { number: number, place: place },
         Token::Got { kind, start, end, long: _ } => {
@@ -124,7 +123,6 @@ pub enum Middle {
 // Behind a value's second colon; some: whether a number stands before.
 fn read_third(
     text: &[u8],
-    table: &[u8; 256],
     from: usize,
     some: bool,
     signed: bool,
@@ -132,10 +130,10 @@ fn read_third(
     min: Amount,
     typ: Amount,
 ) -> ReadValue
-    requires { ⌜ (now table ≡ classes) × (from ≤ length (now text)) ⌝ }
+    requires { ⌜ from ≤ length (now text) ⌝ }
     ensures { λ r. ⌜ Reads (now (text .entry)) from (non (third some signed)) false (record { min = min; typ = typ; max = Amount.Absent }) unit r ⌝ }
 {
-    let t = token_from(text, table, from);
+    let t = token_from(text, from);
     match t {
         Token::Stop { number, place } => ReadValue::Refused { number: number, place: place },
         Token::Got { kind, start, end, long } => {
@@ -149,7 +147,7 @@ fn read_third(
             match h {
                 Here::Refused { number, place } => ReadValue::Refused { number: number, place: place },
                 Here::Time(z) => {
-                    let m = expect(text, table, end, 3);
+                    let m = expect(text, end, 3);
                     match m {
                         Mark::Refused { number, place } => ReadValue::Refused { number: number, place: place },
                         Mark::At(e) => ReadValue::Value { v: Value { min: min, typ: typ, max: Amount::Time(z) }, end: e },
@@ -161,16 +159,16 @@ fn read_third(
 }
 
 // Behind a value's first colon; some: whether a number stands before.
-fn read_second(text: &[u8], table: &[u8; 256], from: usize, some: bool, signed: bool, unit: u8) -> Middle
-    requires { ⌜ (now table ≡ classes) × (from ≤ length (now text)) ⌝ }
+fn read_second(text: &[u8], from: usize, some: bool, signed: bool, unit: u8) -> Middle
+    requires { ⌜ from ≤ length (now text) ⌝ }
     ensures { λ r. ⌜ MiddleRead (now (text .entry)) from some signed unit r ⌝ }
 {
-    let m = mark_from(text, table, from);
+    let m = mark_from(text, from);
     let i = m.place;
     if m.kind == 4 {
         return Middle::Colon { some: some, typ: Amount::Absent, end: i + 1 };
     }
-    let t = token_from(text, table, i);
+    let t = token_from(text, i);
     match t {
         Token::Stop { number, place } => Middle::Refused { number: number, place: place },
         Token::Got { kind, start, end, long } => {
@@ -181,7 +179,7 @@ fn read_second(text: &[u8], table: &[u8; 256], from: usize, some: bool, signed: 
             match h {
                 Here::Refused { number, place } => Middle::Refused { number: number, place: place },
                 Here::Time(z) => {
-                    let m = expect(text, table, end, 4);
+                    let m = expect(text, end, 4);
                     match m {
                         Mark::Refused { number, place } => Middle::Refused { number: number, place: place },
                         Mark::At(e) => Middle::Colon { some: true, typ: Amount::Time(z), end: e },
@@ -193,11 +191,11 @@ fn read_second(text: &[u8], table: &[u8; 256], from: usize, some: bool, signed: 
 }
 
 // Behind a value's first number.
-fn read_first(text: &[u8], table: &[u8; 256], from: usize, signed: bool, unit: u8, min: Amount) -> Lead
-    requires { ⌜ (now table ≡ classes) × (from ≤ length (now text)) ⌝ }
+fn read_first(text: &[u8], from: usize, signed: bool, unit: u8, min: Amount) -> Lead
+    requires { ⌜ from ≤ length (now text) ⌝ }
     ensures { λ r. ⌜ FirstRead (now (text .entry)) from signed unit min r ⌝ }
 {
-    let m = mark_from(text, table, from);
+    let m = mark_from(text, from);
     let i = m.place;
     if m.kind == 3 {
         return Lead::Whole { v: Value { min: min, typ: min, max: min }, end: i + 1 };
@@ -205,7 +203,7 @@ fn read_first(text: &[u8], table: &[u8; 256], from: usize, signed: bool, unit: u
     if m.kind == 4 {
         return Lead::Colon { some: true, min: min, end: i + 1 };
     }
-    let t = token_from(text, table, i);
+    let t = token_from(text, i);
     match t {
         Token::Stop { number, place } => Lead::Refused { number: number, place: place },
         Token::Got { kind, start, end, long: _ } => {
@@ -221,11 +219,11 @@ fn read_first(text: &[u8], table: &[u8; 256], from: usize, signed: bool, unit: u
 }
 
 // The beginning of a value, behind its opening bracket.
-fn read_lead(text: &[u8], table: &[u8; 256], from: usize, signed: bool, unit: u8) -> Lead
-    requires { ⌜ (now table ≡ classes) × (from ≤ length (now text)) ⌝ }
+fn read_lead(text: &[u8], from: usize, signed: bool, unit: u8) -> Lead
+    requires { ⌜ from ≤ length (now text) ⌝ }
     ensures { λ r. ⌜ LeadRead (now (text .entry)) from signed unit r ⌝ }
 {
-    let t = token_from(text, table, from);
+    let t = token_from(text, from);
     match t {
         Token::Stop { number, place } => Lead::Refused { number: number, place: place },
         Token::Got { kind, start, end, long } => {
@@ -238,40 +236,40 @@ fn read_lead(text: &[u8], table: &[u8; 256], from: usize, signed: bool, unit: u8
             let h = number_here(text, kind, start, end, long, signed, unit, true);
             match h {
                 Here::Refused { number, place } => Lead::Refused { number: number, place: place },
-                Here::Time(z) => read_first(text, table, end, signed, unit, Amount::Time(z)),
+                Here::Time(z) => read_first(text, end, signed, unit, Amount::Time(z)),
             }
         }
     }
 }
 
 // A value, behind its opening bracket. Each of its parts is read in one place, so that the value is made where it is returned.
-pub fn read_value(text: &[u8], table: &[u8; 256], from: usize, signed: bool, unit: u8) -> ReadValue
-    requires { ⌜ (now table ≡ classes) × (from ≤ length (now text)) ⌝ }
+pub fn read_value(text: &[u8], from: usize, signed: bool, unit: u8) -> ReadValue
+    requires { ⌜ from ≤ length (now text) ⌝ }
     ensures { λ r. ⌜ ReadsValue (now (text .entry)) from signed unit r ⌝ }
 {
-    let a = read_lead(text, table, from, signed, unit);
+    let a = read_lead(text, from, signed, unit);
     match a {
         Lead::Refused { number, place } => ReadValue::Refused { number: number, place: place },
         Lead::Whole { v, end } => ReadValue::Value { v: v, end: end },
         Lead::Colon { some, min, end } => {
-            let b = read_second(text, table, end, some, signed, unit);
+            let b = read_second(text, end, some, signed, unit);
             match b {
                 Middle::Refused { number, place } => ReadValue::Refused { number: number, place: place },
-                Middle::Colon { some: other, typ, end: behind } => read_third(text, table, behind, other, signed, unit, min, typ),
+                Middle::Colon { some: other, typ, end: behind } => read_third(text, behind, other, signed, unit, min, typ),
             }
         }
     }
 }
 
 // A value with its opening bracket.
-pub fn open_value(text: &[u8], table: &[u8; 256], from: usize, signed: bool, unit: u8) -> ReadValue
-    requires { ⌜ (now table ≡ classes) × (from ≤ length (now text)) ⌝ }
+pub fn open_value(text: &[u8], from: usize, signed: bool, unit: u8) -> ReadValue
+    requires { ⌜ from ≤ length (now text) ⌝ }
     ensures { λ r. ⌜ OpensValue (now (text .entry)) from signed unit r ⌝ }
 {
-    let m = expect(text, table, from, 2);
+    let m = expect(text, from, 2);
     match m {
         Mark::Refused { number, place } => ReadValue::Refused { number: number, place: place },
-        Mark::At(inside) => read_value(text, table, inside, signed, unit),
+        Mark::At(inside) => read_value(text, inside, signed, unit),
     }
 }
 
@@ -307,11 +305,11 @@ pub fn no_values(number: u8, place: usize) -> Values
 }
 
 // One to six signed values, up to the closing bracket of their entry, behind the first one's opening bracket.
-pub fn read_values(text: &[u8], table: &[u8; 256], from: usize, unit: u8) -> Values
-    requires { ⌜ (now table ≡ classes) × (from ≤ length (now text)) ⌝ }
+pub fn read_values(text: &[u8], from: usize, unit: u8) -> Values
+    requires { ⌜ from ≤ length (now text) ⌝ }
     ensures { λ r. ⌜ ReadsValues (now (text .entry)) from unit (r .status) (take (r .count) (r .list)) × (r .count ≤ 6) ⌝ }
 {
-    let a = read_value(text, table, from, true, unit);
+    let a = read_value(text, from, true, unit);
     match a {
         ReadValue::Refused { number, place } => no_values(number, place),
         ReadValue::Value { v, end } => {
@@ -320,7 +318,7 @@ pub fn read_values(text: &[u8], table: &[u8; 256], from: usize, unit: u8) -> Val
             let mut n: usize = 1;
             let mut p = end;
             loop {
-                let t = token_from(text, table, p);
+                let t = token_from(text, p);
                 match t {
                     Token::Stop { number, place } => {
                         return no_values(number, place);
@@ -333,7 +331,7 @@ pub fn read_values(text: &[u8], table: &[u8; 256], from: usize, unit: u8) -> Val
                             if 6 <= n {
                                 return no_values(4, start);
                             }
-                            let b = read_value(text, table, end, true, unit);
+                            let b = read_value(text, end, true, unit);
                             match b {
                                 ReadValue::Refused { number, place } => {
                                     return no_values(number, place);
@@ -355,13 +353,13 @@ pub fn read_values(text: &[u8], table: &[u8; 256], from: usize, unit: u8) -> Val
 }
 
 // One to six signed values, with the first one's opening bracket.
-pub fn open_values(text: &[u8], table: &[u8; 256], from: usize, unit: u8) -> Values
-    requires { ⌜ (now table ≡ classes) × (from ≤ length (now text)) ⌝ }
+pub fn open_values(text: &[u8], from: usize, unit: u8) -> Values
+    requires { ⌜ from ≤ length (now text) ⌝ }
     ensures { λ r. ⌜ OpensValues (now (text .entry)) from unit (r .status) (take (r .count) (r .list)) × (r .count ≤ 6) ⌝ }
 {
-    let m = expect(text, table, from, 2);
+    let m = expect(text, from, 2);
     match m {
         Mark::Refused { number, place } => no_values(number, place),
-        Mark::At(inside) => read_values(text, table, inside, unit),
+        Mark::At(inside) => read_values(text, inside, unit),
     }
 }

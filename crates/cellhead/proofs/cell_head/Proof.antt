@@ -33,9 +33,8 @@ read-text-requires c κs =
     let take-opened = c .before .before .before .before .take-opened in
     let m2 = c .before .m2 in
     let expect-key = c .before .before .before .expect-key in
-    let pre = c .before .before .before .before .before .before .pre in
     let v : KeyRead (now (args .text)) (take-opened .result) 54 (mark.At (m2 .given .0 .0)) = rw (m2 .given .1) at (expect-key .ensures) in
-    (pre .0, v .1)
+    v .1
 
 enum-known-t : tie.Need-enum-known-t
 enum-known-t c = search needs
@@ -49,9 +48,8 @@ cell-path-requires c κs =
     let m2 = c .before .before .before .before .before .m2 in
     let t2 = c .before .t2 in
     let read-text = c .before .before .before .read-text in
-    let pre = c .before .before .before .before .before .before .before .before .before .before .pre in
     let t' : TextRead (now (args .text)) (m2 .given .0 .0) (rn.Name (t2 .given .0 .0) (t2 .given .0 .1 .0)) = rw (t2 .given .1) at (read-text .ensures) in
-    (pre .0, t' .0 true .5)
+    t' .0 true .5
 
 enum-known-i : tie.Need-enum-known-i
 enum-known-i c = search needs
@@ -59,8 +57,8 @@ enum-known-i c = search needs
 enum-known-i-2 : tie.Need-enum-known-i-2
 enum-known-i-2 c = search needs
 
-add-t25 : tie.Need-add-t25
-add-t25 c =
+add-t24 : tie.Need-add-t24
+add-t24 c =
     let args = c .before .before .before .before .before .before .before .before .before .before .before .before .before .before .args in
     let m2 = c .before .before .before .before .before .before .before .before .before .m2 in
     let t2 = c .before .before .before .before .before .t2 in
@@ -68,8 +66,8 @@ add-t25 c =
     let t' : TextRead (now (args .text)) (m2 .given .0 .0) (rn.Name (t2 .given .0 .0) (t2 .given .0 .1 .0)) = rw (t2 .given .1) at (read-text .ensures) in
     omega (arith, t' .1, t' .0 true .5)
 
-sub-t26 : tie.Need-sub-t26
-sub-t26 c =
+sub-t25 : tie.Need-sub-t25
+sub-t25 c =
     let args = c .before .before .before .before .before .before .before .before .before .before .before .before .before .before .args in
     let m2 = c .before .before .before .before .before .before .before .before .before .m2 in
     let t2 = c .before .before .before .before .before .t2 in
@@ -142,8 +140,8 @@ cell-head-spec =
     cell-path-requires
     enum-known-i
     enum-known-i-2
-    add-t25
-    sub-t26
+    add-t24
+    sub-t25
     returns
     returns-2
     returns-3

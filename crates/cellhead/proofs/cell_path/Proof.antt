@@ -28,9 +28,8 @@ read-instance-requires c κs =
     let take-next = c .before .before .before .before .take-next in
     let m2 = c .before .m2 in
     let expect-key = c .before .before .before .expect-key in
-    let pre = c .before .before .before .before .before .before .pre in
     let v : KeyRead (now (args .text)) (take-next .result) 55 (mark.At (m2 .given .0 .0)) = rw (m2 .given .1) at (expect-key .ensures) in
-    (pre .0, v .1)
+    v .1
 
 returns : tie.Need-returns
 returns c =

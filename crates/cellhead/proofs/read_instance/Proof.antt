@@ -29,7 +29,7 @@ returns c =
     let pre = c .before .before .before .before .before .before .pre in
     let token-from = c .before .before .before .before .token-from in
     let if1 = c .if1 in
-    instance-top (now (args .text)) (args .from) ((t2 .given) .0 .0) ((t2 .given) .0 .1 .0) ((t2 .given) .0 .1 .1 .0) ((t2 .given) .0 .1 .1 .1 .0) (pre .1) (sym (token-from .ensures) ∙ (t2 .given) .1) (args .slash) (if1 .taken)
+    instance-top (now (args .text)) (args .from) ((t2 .given) .0 .0) ((t2 .given) .0 .1 .0) ((t2 .given) .0 .1 .1 .0) ((t2 .given) .0 .1 .1 .1 .0) pre (sym (token-from .ensures) ∙ (t2 .given) .1) (args .slash) (if1 .taken)
 
 expect-requires : tie.Need-expect-requires
 expect-requires c κs =
@@ -37,7 +37,7 @@ expect-requires c κs =
     let args = c .before .before .before .before .before .before .before .args in
     let t2 = c .before .before .before .t2 in
     let token-from = c .before .before .before .before .before .token-from in
-    (pre .0, (ahead (now (args .text)) (args .from) ((t2 .given) .0 .0) ((t2 .given) .0 .1 .0) ((t2 .given) .0 .1 .1 .0) ((t2 .given) .0 .1 .1 .1 .0) (pre .1) (sym (token-from .ensures) ∙ (t2 .given) .1)) .1)
+    (ahead (now (args .text)) (args .from) ((t2 .given) .0 .0) ((t2 .given) .0 .1 .0) ((t2 .given) .0 .1 .1 .0) ((t2 .given) .0 .1 .1 .1 .0) pre (sym (token-from .ensures) ∙ (t2 .given) .1)) .1
 
 enum-known-m : tie.Need-enum-known-m
 enum-known-m c = search needs
@@ -55,7 +55,7 @@ returns-2 c =
     let token-from = c .before .before .before .before .before .before .before .before .before .token-from in
     let if2 = c .before .before .before .before .if2 in
     let w : Marked (now (args .text)) ((t2 .given) .0 .1 .1 .0) 3 (mark.Refused (m .given .0 .0) (m .given .0 .1 .0)) = rw (m .given .1) at (expect .ensures) in
-    instance-any-not (now (args .text)) (args .from) ((t2 .given) .0 .0) ((t2 .given) .0 .1 .0) ((t2 .given) .0 .1 .1 .0) ((t2 .given) .0 .1 .1 .1 .0) (pre .1) (sym (token-from .ensures) ∙ (t2 .given) .1) (args .slash) (m .given .0 .0) (m .given .0 .1 .0) (if2 .taken) w
+    instance-any-not (now (args .text)) (args .from) ((t2 .given) .0 .0) ((t2 .given) .0 .1 .0) ((t2 .given) .0 .1 .1 .0) ((t2 .given) .0 .1 .1 .1 .0) pre (sym (token-from .ensures) ∙ (t2 .given) .1) (args .slash) (m .given .0 .0) (m .given .0 .1 .0) (if2 .taken) w
 
 returns-3 : tie.Need-returns-3
 returns-3 c =
@@ -67,7 +67,7 @@ returns-3 c =
     let token-from = c .before .before .before .before .before .before .before .before .before .token-from in
     let if2 = c .before .before .before .before .if2 in
     let w : Marked (now (args .text)) ((t2 .given) .0 .1 .1 .0) 3 (mark.At (m2 .given .0 .0)) = rw (m2 .given .1) at (expect .ensures) in
-    instance-any (now (args .text)) (args .from) ((t2 .given) .0 .0) ((t2 .given) .0 .1 .0) ((t2 .given) .0 .1 .1 .0) ((t2 .given) .0 .1 .1 .1 .0) (pre .1) (sym (token-from .ensures) ∙ (t2 .given) .1) (args .slash) (m2 .given .0 .0) (if2 .taken) w
+    instance-any (now (args .text)) (args .from) ((t2 .given) .0 .0) ((t2 .given) .0 .1 .0) ((t2 .given) .0 .1 .1 .0) ((t2 .given) .0 .1 .1 .1 .0) pre (sym (token-from .ensures) ∙ (t2 .given) .1) (args .slash) (m2 .given .0 .0) (if2 .taken) w
 
 path-here-requires : tie.Need-path-here-requires
 path-here-requires c κs =
@@ -75,7 +75,7 @@ path-here-requires c κs =
     let t2 = c .before .before .before .t2 in
     let pre = c .before .before .before .before .before .before .before .pre in
     let token-from = c .before .before .before .before .before .token-from in
-    let g = (onwards (now (args .text)) (args .from) ((t2 .given) .0 .0) ((t2 .given) .0 .1 .0) ((t2 .given) .0 .1 .1 .0) ((t2 .given) .0 .1 .1 .1 .0) (pre .1) (sym (token-from .ensures) ∙ (t2 .given) .1)) in (omega arith, g .2)
+    let g = (onwards (now (args .text)) (args .from) ((t2 .given) .0 .0) ((t2 .given) .0 .1 .0) ((t2 .given) .0 .1 .1 .0) ((t2 .given) .0 .1 .1 .1 .0) pre (sym (token-from .ensures) ∙ (t2 .given) .1)) in (omega arith, g .2)
 
 expect-requires-2 : tie.Need-expect-requires-2
 expect-requires-2 c κs =
@@ -83,7 +83,7 @@ expect-requires-2 c κs =
     let args = c .before .before .before .before .before .before .before .before .before .args in
     let t2 = c .before .before .before .before .before .t2 in
     let token-from = c .before .before .before .before .before .before .before .token-from in
-    (pre .0, (ahead (now (args .text)) (args .from) ((t2 .given) .0 .0) ((t2 .given) .0 .1 .0) ((t2 .given) .0 .1 .1 .0) ((t2 .given) .0 .1 .1 .1 .0) (pre .1) (sym (token-from .ensures) ∙ (t2 .given) .1)) .1)
+    (ahead (now (args .text)) (args .from) ((t2 .given) .0 .0) ((t2 .given) .0 .1 .0) ((t2 .given) .0 .1 .1 .0) ((t2 .given) .0 .1 .1 .1 .0) pre (sym (token-from .ensures) ∙ (t2 .given) .1)) .1
 
 enum-known-m-3 : tie.Need-enum-known-m-3
 enum-known-m-3 c = search needs
@@ -104,7 +104,7 @@ returns-4 c =
     let if3 = c .before .before .before .before .if3 in
     let path-here = c .before .before .before .before .before .path-here in
     let w : Marked (now (args .text)) ((t2 .given) .0 .1 .1 .0) 3 (mark.Refused (m3 .given .0 .0) (m3 .given .0 .1 .0)) = rw (m3 .given .1) at (expect2 .ensures) in
-    instance-open (now (args .text)) (args .from) ((t2 .given) .0 .0) ((t2 .given) .0 .1 .0) ((t2 .given) .0 .1 .1 .0) ((t2 .given) .0 .1 .1 .1 .0) (pre .1) (sym (token-from .ensures) ∙ (t2 .given) .1) (args .slash) (m3 .given .0 .0) (m3 .given .0 .1 .0) (if1 .left) (if2 .left) (subst (λ (n : ℕ). PathHere (placed (now (args .text)) ((t2 .given) .0 .0) ((t2 .given) .0 .1 .0) ((t2 .given) .0 .1 .1 .0) ((t2 .given) .0 .1 .1 .1 .0)) (args .slash) n) (if3 .taken) (path-here .ensures)) w
+    instance-open (now (args .text)) (args .from) ((t2 .given) .0 .0) ((t2 .given) .0 .1 .0) ((t2 .given) .0 .1 .1 .0) ((t2 .given) .0 .1 .1 .1 .0) pre (sym (token-from .ensures) ∙ (t2 .given) .1) (args .slash) (m3 .given .0 .0) (m3 .given .0 .1 .0) (if1 .left) (if2 .left) (subst (λ (n : ℕ). PathHere (placed (now (args .text)) ((t2 .given) .0 .0) ((t2 .given) .0 .1 .0) ((t2 .given) .0 .1 .1 .0) ((t2 .given) .0 .1 .1 .1 .0)) (args .slash) n) (if3 .taken) (path-here .ensures)) w
 
 returns-5 : tie.Need-returns-5
 returns-5 c =
@@ -119,7 +119,7 @@ returns-5 c =
     let if3 = c .before .before .before .before .if3 in
     let path-here = c .before .before .before .before .before .path-here in
     let w : Marked (now (args .text)) ((t2 .given) .0 .1 .1 .0) 3 (mark.At (m4 .given .0 .0)) = rw (m4 .given .1) at (expect2 .ensures) in
-    instance-named (now (args .text)) (args .from) ((t2 .given) .0 .0) ((t2 .given) .0 .1 .0) ((t2 .given) .0 .1 .1 .0) ((t2 .given) .0 .1 .1 .1 .0) (pre .1) (sym (token-from .ensures) ∙ (t2 .given) .1) (args .slash) (m4 .given .0 .0) (if1 .left) (if2 .left) (subst (λ (n : ℕ). PathHere (placed (now (args .text)) ((t2 .given) .0 .0) ((t2 .given) .0 .1 .0) ((t2 .given) .0 .1 .1 .0) ((t2 .given) .0 .1 .1 .1 .0)) (args .slash) n) (if3 .taken) (path-here .ensures)) w
+    instance-named (now (args .text)) (args .from) ((t2 .given) .0 .0) ((t2 .given) .0 .1 .0) ((t2 .given) .0 .1 .1 .0) ((t2 .given) .0 .1 .1 .1 .0) pre (sym (token-from .ensures) ∙ (t2 .given) .1) (args .slash) (m4 .given .0 .0) (if1 .left) (if2 .left) (subst (λ (n : ℕ). PathHere (placed (now (args .text)) ((t2 .given) .0 .0) ((t2 .given) .0 .1 .0) ((t2 .given) .0 .1 .1 .0) ((t2 .given) .0 .1 .1 .1 .0)) (args .slash) n) (if3 .taken) (path-here .ensures)) w
 
 returns-6 : tie.Need-returns-6
 returns-6 c =
@@ -127,7 +127,7 @@ returns-6 c =
     let t = c .before .t in
     let pre = c .before .before .before .before .before .pre in
     let token-from = c .before .before .before .token-from in
-    instance-stops (now (args .text)) (args .from) (t .given .0 .0) (t .given .0 .1 .0) (args .slash) (pre .1) (sym (token-from .ensures) ∙ t .given .1)
+    instance-stops (now (args .text)) (args .from) (t .given .0 .0) (t .given .0 .1 .0) (args .slash) pre (sym (token-from .ensures) ∙ t .given .1)
 
 returns-7 : tie.Need-returns-7
 returns-7 c =
@@ -139,7 +139,7 @@ returns-7 c =
     let if1 = c .before .before .before .if1 in
     let if2 = c .before .before .if2 in
     let if3 = c .if3 in
-    instance-wrong (now (args .text)) (args .from) ((t2 .given) .0 .0) ((t2 .given) .0 .1 .0) ((t2 .given) .0 .1 .1 .0) ((t2 .given) .0 .1 .1 .1 .0) (pre .1) (sym (token-from .ensures) ∙ (t2 .given) .1) (args .slash) (path-here .result) (if1 .left) (if2 .left) (if3 .left) (path-here .ensures)
+    instance-wrong (now (args .text)) (args .from) ((t2 .given) .0 .0) ((t2 .given) .0 .1 .0) ((t2 .given) .0 .1 .1 .0) ((t2 .given) .0 .1 .1 .1 .0) pre (sym (token-from .ensures) ∙ (t2 .given) .1) (args .slash) (path-here .result) (if1 .left) (if2 .left) (if3 .left) (path-here .ensures)
 
 pub read-instance-spec : {M : Type 1} → statement M
 read-instance-spec =

@@ -16,7 +16,7 @@ returns c =
     let look = c .before .look in
     let pre = c .before .before .before .pre in
     let if1 = c .if1 in
-    turn-stops (now (args .text)) (args .from) (look .result .kind) (look .result .start) (args .within) (args .some) (args .slash) (pre .1) (look .ensures .0 (if1 .taken))
+    turn-stops (now (args .text)) (args .from) (look .result .kind) (look .result .start) (args .within) (args .some) (args .slash) pre (look .ensures .0 (if1 .taken))
 
 shut-requires : tie.Need-shut-requires
 shut-requires c κs = search needs
@@ -30,7 +30,7 @@ returns-2 c =
     let pre = c .before .before .before .before .before .pre in
     let if2 = c .before .if2 in
     let g = look .ensures .1 (if1 .left) in
-    rw (shut .ensures) (turn-shut (now (args .text)) (args .from) (look .result .kind) (look .result .start) (look .result .end) (g .0) (pre .1) (g .1) (args .slash) (args .within) (args .some) (if2 .taken))
+    rw (shut .ensures) (turn-shut (now (args .text)) (args .from) (look .result .kind) (look .result .start) (look .result .end) (g .0) pre (g .1) (args .slash) (args .within) (args .some) (if2 .taken))
 
 open-turn-requires : tie.Need-open-turn-requires
 open-turn-requires c κs =
@@ -39,7 +39,7 @@ open-turn-requires c κs =
     let pre = c .before .before .before .before .before .pre in
     let args = c .before .before .before .before .before .args in
     let g = look .ensures .1 (if1 .left) in
-    (pre .0, ahead (now (args .text)) (args .from) (look .result .kind) (look .result .start) (look .result .end) (g .0) (pre .1) (g .1) .1)
+    ahead (now (args .text)) (args .from) (look .result .kind) (look .result .start) (look .result .end) (g .0) pre (g .1) .1
 
 returns-3 : tie.Need-returns-3
 returns-3 c =
@@ -50,7 +50,7 @@ returns-3 c =
     let open-turn = c .open-turn in
     let if3 = c .before .if3 in
     let g = look .ensures .1 (if1 .left) in
-    turn-opens (now (args .text)) (args .from) (look .result .kind) (look .result .start) (look .result .end) (g .0) (pre .1) (g .1) (args .slash) (args .within) (args .some) (open-turn .result) (if3 .taken) (open-turn .ensures)
+    turn-opens (now (args .text)) (args .from) (look .result .kind) (look .result .start) (look .result .end) (g .0) pre (g .1) (args .slash) (args .within) (args .some) (open-turn .result) (if3 .taken) (open-turn .ensures)
 
 returns-4 : tie.Need-returns-4
 returns-4 c =
@@ -61,7 +61,7 @@ returns-4 c =
     let if2 = c .before .if2 in
     let if3 = c .if3 in
     let g = look .ensures .1 (if1 .left) in
-    turn-wrong (now (args .text)) (args .from) (look .result .kind) (look .result .start) (look .result .end) (g .0) (pre .1) (g .1) (args .slash) (args .within) (args .some) (if2 .left) (if3 .left)
+    turn-wrong (now (args .text)) (args .from) (look .result .kind) (look .result .start) (look .result .end) (g .0) pre (g .1) (args .slash) (args .within) (args .some) (if2 .left) (if3 .left)
 
 pub body-turn-spec : {M : Type 1} → statement M
 body-turn-spec =

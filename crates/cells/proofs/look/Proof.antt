@@ -9,8 +9,8 @@ use Rattle.cells.proofs.look.Tie as tie
 mark-from-requires : tie.Need-mark-from-requires
 mark-from-requires c κs = search needs
 
-add-t14 : tie.Need-add-t14
-add-t14 c = search needs
+add-t13 : tie.Need-add-t13
+add-t13 c = search needs
 
 returns : tie.Need-returns
 returns c =
@@ -47,7 +47,7 @@ look-spec =
     tie.close
     (tie.spec
     mark-from-requires
-    add-t14
+    add-t13
     returns
     token-from-requires
     enum-known-t

@@ -47,21 +47,21 @@ returns-3 c =
     let args = c .before .before .before .args in
     let match' = c .before .match in
     let pre = c .before .before .before .pre in
-    rw (is-absolute (args .within) (match' .keys3)) (absolute-opens (now (args .text)) (args .from) (args .slash) (pre .1))
+    rw (is-absolute (args .within) (match' .keys3)) (absolute-opens (now (args .text)) (args .from) (args .slash) pre)
 
 returns-4 : tie.Need-returns-4
 returns-4 c =
     let args = c .before .before .before .args in
     let match' = c .before .match in
     let pre = c .before .before .before .pre in
-    rw (is-increment (args .within) (match' .keys4)) (increment-opens (now (args .text)) (args .from) (args .slash) (pre .1))
+    rw (is-increment (args .within) (match' .keys4)) (increment-opens (now (args .text)) (args .from) (args .slash) pre)
 
 returns-5 : tie.Need-returns-5
 returns-5 c =
     let args = c .before .before .before .args in
     let match' = c .before .match in
     let pre = c .before .before .before .pre in
-    rw (is-check (args .within) (match' .keys5)) (check-opens (now (args .text)) (args .from) (args .slash) (pre .1))
+    rw (is-check (args .within) (match' .keys5)) (check-opens (now (args .text)) (args .from) (args .slash) pre)
 
 pub open-turn-spec : {M : Type 1} → statement M
 open-turn-spec =

@@ -16,22 +16,21 @@ use Rattle.cells.proofs.read_body.Statement.{statement}
 use Rattle.cells.proofs.read_body.Tie as tie
 
 abbrev Inv-loop : tie.InvT-loop
-Inv-loop text table from slash unit room fill row entries₀ within₀ some₀ p₀ n₀ entries within some p n = (is : List Item) × (length is ≡ n) × (n ≤ room) × (p ≤ length text) × Along text from slash unit room p n within some is × (from ≤ p) × (entries ≡ filled fill entries₀ row is) × (length entries ≡ length entries₀)
+Inv-loop text from slash unit room fill row entries₀ within₀ some₀ p₀ n₀ entries within some p n = (is : List Item) × (length is ≡ n) × (n ≤ room) × (p ≤ length text) × Along text from slash unit room p n within some is × (from ≤ p) × (entries ≡ filled fill entries₀ row is) × (length entries ≡ length entries₀)
 
 abbrev μ-loop : tie.MeasureT-loop
-μ-loop text table from slash unit room fill row entries₀ within₀ some₀ p₀ n₀ entries within some p n = length text - p
+μ-loop text from slash unit room fill row entries₀ within₀ some₀ p₀ n₀ entries within some p n = length text - p
 
 loop-holds : tie.Need-loop-holds Inv-loop μ-loop
 loop-holds c =
     let pre = c .before .before .pre in
     let args = c .before .before .args in
-    ([], refl, omega arith, pre .1, along-start (now (args .text)) (args .from) (args .slash) (args .unit) (args .room), omega arith, sym (filled-none (args .fill) (now (args .entries)) (args .row)), refl)
+    ([], refl, omega arith, pre .0, along-start (now (args .text)) (args .from) (args .slash) (args .unit) (args .room), omega arith, sym (filled-none (args .fill) (now (args .entries)) (args .row)), refl)
 
 body-turn-requires : tie.Need-body-turn-requires Inv-loop μ-loop
 body-turn-requires c κs =
-    let pre = c .before .before .before .pre in
     let loop' = c .loop in
-    (pre .0, (loop' .inv) .3)
+    (loop' .inv) .3
 
 enum-known-t : tie.Need-enum-known-t Inv-loop μ-loop
 enum-known-t c =
@@ -110,9 +109,8 @@ read-entry-requires c κs =
     let loop' = c .before .before .before .before .loop in
     let t4 = c .before .t4 in
     let body-turn = c .before .before .before .body-turn in
-    let pre = c .before .before .before .before .before .before .before .pre in
     let u : Turned (now (args .text)) (loop' .p) (loop' .within) (loop' .some) (args .slash) (turn.Entry (t4 .given .0 .0)) = rw (t4 .given .1) at (body-turn .ensures) in
-    (pre .0, u .1 .1)
+    u .1 .1
 
 enum-known-status : tie.Need-enum-known-status Inv-loop μ-loop
 enum-known-status c =
@@ -151,8 +149,8 @@ add-note-entry c =
     let good = c .before .before .before .before .before .before .before .before .before .before .before .before .good in
     let pre = c .before .before .before .before .before .before .before .before .before .before .before .before .pre in
     let e' : Listable (now (args .text)) (t4 .given .0 .0) (itemPlace (loop' .within) (args .slash)) (args .slash) (args .unit) (args .room - loop' .n) (status.Done (status2 .given .0 .0)) ((read-entry .result) .entry) (take ((read-entry .result) .count) ((read-entry .result) .list)) = rw (status2 .given .1) at (read-entry .ensures .0) in
-    let g = good .1 .1 .1 .1 .1 .1 .1 .1 .0 in
-    omega (arith, e' .3, (loop' .inv) .2, pre .2, g)
+    let g = good .1 .1 .1 .1 .1 .1 .1 .0 in
+    omega (arith, e' .3, (loop' .inv) .2, pre .1, g)
 
 note-entry-requires : tie.Need-note-entry-requires Inv-loop μ-loop
 note-entry-requires c κs =
@@ -163,7 +161,7 @@ note-entry-requires c κs =
     let read-entry = c .before .before .before .before .read-entry in
     let pre = c .before .before .before .before .before .before .before .before .before .before .before .before .pre in
     let e' : Listable (now (args .text)) (t4 .given .0 .0) (itemPlace (loop' .within) (args .slash)) (args .slash) (args .unit) (args .room - loop' .n) (status.Done (status2 .given .0 .0)) ((read-entry .result) .entry) (take ((read-entry .result) .count) ((read-entry .result) .list)) = rw (status2 .given .1) at (read-entry .ensures .0) in
-    (omega (arith, e' .3, (loop' .inv) .2, pre .2, (loop' .inv) .7), read-entry .ensures .1)
+    (omega (arith, e' .3, (loop' .inv) .2, pre .1, (loop' .inv) .7), read-entry .ensures .1)
 
 add-n : tie.Need-add-n Inv-loop μ-loop
 add-n c =
@@ -175,7 +173,7 @@ add-n c =
     let good = c .before .before .before .before .before .before .before .before .before .before .before .before .before .before .before .good in
     let pre = c .before .before .before .before .before .before .before .before .before .before .before .before .before .before .before .pre in
     let e' : Listable (now (args .text)) (t4 .given .0 .0) (itemPlace (loop' .within) (args .slash)) (args .slash) (args .unit) (args .room - loop' .n) (status.Done (status2 .given .0 .0)) ((read-entry .result) .entry) (take ((read-entry .result) .count) ((read-entry .result) .list)) = rw (status2 .given .1) at (read-entry .ensures .0) in
-    let g = good in omega (arith, e' .3, (loop' .inv) .2, pre .2)
+    let g = good in omega (arith, e' .3, (loop' .inv) .2, pre .1)
 
 loop-less-2 : tie.Need-loop-less-2 Inv-loop μ-loop
 loop-less-2 c =
@@ -203,7 +201,7 @@ loop-again-2 c =
     let e' : Listable (now (args .text)) (t4 .given .0 .0) (itemPlace (loop' .within) (args .slash)) (args .slash) (args .unit) (args .room - loop' .n) (status.Done (status2 .given .0 .0)) ((read-entry .result) .entry) (take ((read-entry .result) .count) ((read-entry .result) .list)) = rw (status2 .given .1) at (read-entry .ensures .0) in
     ((loop' .inv) .0 ++ (item ((read-entry .result) .entry) (take ((read-entry .result) .count) ((read-entry .result) .list))) ∷ [], length-append ((loop' .inv) .0) ((item ((read-entry .result) .entry) (take ((read-entry .result) .count) ((read-entry .result) .list))) ∷ []) ∙ ap (λ z. z + 1) ((loop' .inv) .1), omega (arith, e' .3, (loop' .inv) .2), e' .2,
     along-entry (now (args .text)) (args .from) (args .slash) (args .unit) (args .room) (loop' .p) (loop' .n) (loop' .within) (loop' .some) ((loop' .inv) .0) ((loop' .inv) .4) (t4 .given .0 .0) u (status2 .given .0 .0) ((read-entry .result) .entry) (take ((read-entry .result) .count) ((read-entry .result) .list)) e', omega (arith, u .1 .0, e' .1, (loop' .inv) .5),
-    note-entry .ensures ∙ rw ((loop' .inv) .6) (filled-on (args .fill) (now (args .entries)) (args .row) (loop' .n) ((loop' .inv) .0) (item ((read-entry .result) .entry) (take ((read-entry .result) .count) ((read-entry .result) .list))) ((loop' .inv) .1) (omega (arith, e' .3, (loop' .inv) .2, pre .2))),
+    note-entry .ensures ∙ rw ((loop' .inv) .6) (filled-on (args .fill) (now (args .entries)) (args .row) (loop' .n) ((loop' .inv) .0) (item ((read-entry .result) .entry) (take ((read-entry .result) .count) ((read-entry .result) .list))) ((loop' .inv) .1) (omega (arith, e' .3, (loop' .inv) .2, pre .1))),
     note-entry .kept .0 ∙ (loop' .inv) .7)
 
 pub read-body-spec : {M : Type 1} → statement M

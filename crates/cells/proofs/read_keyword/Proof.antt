@@ -26,7 +26,7 @@ sub-word c =
     let t2 = c .before .t2 in
     let pre = c .before .before .before .before .before .pre in
     let token-from = c .before .before .before .token-from in
-    let g = (onwards (now (args .text)) (args .from) ((t2 .given) .0 .0) ((t2 .given) .0 .1 .0) ((t2 .given) .0 .1 .1 .0) ((t2 .given) .0 .1 .1 .1 .0) (pre .1) (sym (token-from .ensures) ∙ (t2 .given) .1)) in omega arith
+    let g = (onwards (now (args .text)) (args .from) ((t2 .given) .0 .0) ((t2 .given) .0 .1 .0) ((t2 .given) .0 .1 .1 .0) ((t2 .given) .0 .1 .1 .1 .0) (pre .0) (sym (token-from .ensures) ∙ (t2 .given) .1)) in omega arith
 
 part-word-start : tie.Need-part-word-start
 part-word-start c =
@@ -34,7 +34,7 @@ part-word-start c =
     let t2 = c .before .t2 in
     let pre = c .before .before .before .before .before .pre in
     let token-from = c .before .before .before .token-from in
-    let g = (onwards (now (args .text)) (args .from) ((t2 .given) .0 .0) ((t2 .given) .0 .1 .0) ((t2 .given) .0 .1 .1 .0) ((t2 .given) .0 .1 .1 .1 .0) (pre .1) (sym (token-from .ensures) ∙ (t2 .given) .1)) in omega arith
+    let g = (onwards (now (args .text)) (args .from) ((t2 .given) .0 .0) ((t2 .given) .0 .1 .0) ((t2 .given) .0 .1 .1 .0) ((t2 .given) .0 .1 .1 .1 .0) (pre .0) (sym (token-from .ensures) ∙ (t2 .given) .1)) in omega arith
 
 part-word-end : tie.Need-part-word-end
 part-word-end c =
@@ -42,7 +42,7 @@ part-word-end c =
     let t2 = c .before .t2 in
     let pre = c .before .before .before .before .before .pre in
     let token-from = c .before .before .before .token-from in
-    let g = (onwards (now (args .text)) (args .from) ((t2 .given) .0 .0) ((t2 .given) .0 .1 .0) ((t2 .given) .0 .1 .1 .0) ((t2 .given) .0 .1 .1 .1 .0) (pre .1) (sym (token-from .ensures) ∙ (t2 .given) .1)) in g .2
+    let g = (onwards (now (args .text)) (args .from) ((t2 .given) .0 .0) ((t2 .given) .0 .1 .0) ((t2 .given) .0 .1 .1 .0) ((t2 .given) .0 .1 .1 .1 .0) (pre .0) (sym (token-from .ensures) ∙ (t2 .given) .1)) in g .2
 
 key-of-requires : tie.Need-key-of-requires
 key-of-requires c κs = search needs
@@ -57,7 +57,7 @@ returns c =
     let key-of = c .before .before .key-of in
     let if2 = c .before .if2 in
     let if3 = c .if3 in
-    either-long (now (args .text)) (args .from) ((t2 .given) .0 .0) ((t2 .given) .0 .1 .0) ((t2 .given) .0 .1 .1 .0) ((t2 .given) .0 .1 .1 .1 .0) (pre .1) (sym (token-from .ensures) ∙ (t2 .given) .1) (args .first) (if1 .taken) (args .first) (inl refl) (sym (key-of .ensures) ∙ if2 .taken) (if3 .taken)
+    either-long (now (args .text)) (args .from) ((t2 .given) .0 .0) ((t2 .given) .0 .1 .0) ((t2 .given) .0 .1 .1 .0) ((t2 .given) .0 .1 .1 .1 .0) (pre .0) (sym (token-from .ensures) ∙ (t2 .given) .1) (args .first) (if1 .taken) (args .first) (inl refl) (sym (key-of .ensures) ∙ if2 .taken) (if3 .taken)
 
 returns-2 : tie.Need-returns-2
 returns-2 c =
@@ -69,12 +69,12 @@ returns-2 c =
     let key-of = c .before .before .key-of in
     let if2 = c .before .if2 in
     let if3 = c .if3 in
-    either-first (now (args .text)) (args .from) ((t2 .given) .0 .0) ((t2 .given) .0 .1 .0) ((t2 .given) .0 .1 .1 .0) ((t2 .given) .0 .1 .1 .1 .0) (pre .1) (sym (token-from .ensures) ∙ (t2 .given) .1) (args .first) (if1 .taken) (sym (key-of .ensures) ∙ if2 .taken) (if3 .left)
+    either-first (now (args .text)) (args .from) ((t2 .given) .0 .0) ((t2 .given) .0 .1 .0) ((t2 .given) .0 .1 .1 .0) ((t2 .given) .0 .1 .1 .1 .0) (pre .0) (sym (token-from .ensures) ∙ (t2 .given) .1) (args .first) (if1 .taken) (sym (key-of .ensures) ∙ if2 .taken) (if3 .left)
 
 add-if4 : tie.Need-add-if4
 add-if4 c =
     let pre = c .before .before .before .before .before .before .before .before .before .pre in
-    omega (arith, pre .2)
+    omega (arith, pre .1)
 
 returns-3 : tie.Need-returns-3
 returns-3 c =
@@ -86,7 +86,7 @@ returns-3 c =
     let key-of = c .before .before .before .key-of in
     let if4 = c .before .if4 in
     let if5 = c .if5 in
-    either-long (now (args .text)) (args .from) ((t2 .given) .0 .0) ((t2 .given) .0 .1 .0) ((t2 .given) .0 .1 .1 .0) ((t2 .given) .0 .1 .1 .1 .0) (pre .1) (sym (token-from .ensures) ∙ (t2 .given) .1) (args .first) (if1 .taken) ((args .first) + 1) (inr refl) (sym (key-of .ensures) ∙ if4 .taken) (if5 .taken)
+    either-long (now (args .text)) (args .from) ((t2 .given) .0 .0) ((t2 .given) .0 .1 .0) ((t2 .given) .0 .1 .1 .0) ((t2 .given) .0 .1 .1 .1 .0) (pre .0) (sym (token-from .ensures) ∙ (t2 .given) .1) (args .first) (if1 .taken) ((args .first) + 1) (inr refl) (sym (key-of .ensures) ∙ if4 .taken) (if5 .taken)
 
 returns-4 : tie.Need-returns-4
 returns-4 c =
@@ -98,7 +98,7 @@ returns-4 c =
     let key-of = c .before .before .before .key-of in
     let if4 = c .before .if4 in
     let if5 = c .if5 in
-    either-second (now (args .text)) (args .from) ((t2 .given) .0 .0) ((t2 .given) .0 .1 .0) ((t2 .given) .0 .1 .1 .0) ((t2 .given) .0 .1 .1 .1 .0) (pre .1) (sym (token-from .ensures) ∙ (t2 .given) .1) (args .first) (if1 .taken) (sym (key-of .ensures) ∙ if4 .taken) (if5 .left)
+    either-second (now (args .text)) (args .from) ((t2 .given) .0 .0) ((t2 .given) .0 .1 .0) ((t2 .given) .0 .1 .1 .0) ((t2 .given) .0 .1 .1 .1 .0) (pre .0) (sym (token-from .ensures) ∙ (t2 .given) .1) (args .first) (if1 .taken) (sym (key-of .ensures) ∙ if4 .taken) (if5 .left)
 
 wrong-at-requires : tie.Need-wrong-at-requires
 wrong-at-requires c κs = search needs
@@ -114,7 +114,7 @@ returns-5 c =
     let if2 = c .before .before .if2 in
     let key-of = c .before .before .before .key-of in
     let if4 = c .before .if4 in
-    either-word (now (args .text)) (args .from) ((t2 .given) .0 .0) ((t2 .given) .0 .1 .0) ((t2 .given) .0 .1 .1 .0) ((t2 .given) .0 .1 .1 .1 .0) (pre .1) (sym (token-from .ensures) ∙ (t2 .given) .1) (args .first) (if1 .taken) (wrong-at .result) (wrong-at .ensures) (λ z. if2 .left ((key-of .ensures) ∙ z)) (λ z. if4 .left ((key-of .ensures) ∙ z))
+    either-word (now (args .text)) (args .from) ((t2 .given) .0 .0) ((t2 .given) .0 .1 .0) ((t2 .given) .0 .1 .1 .0) ((t2 .given) .0 .1 .1 .1 .0) (pre .0) (sym (token-from .ensures) ∙ (t2 .given) .1) (args .first) (if1 .taken) (wrong-at .result) (wrong-at .ensures) (λ z. if2 .left ((key-of .ensures) ∙ z)) (λ z. if4 .left ((key-of .ensures) ∙ z))
 
 wrong-at-requires-2 : tie.Need-wrong-at-requires-2
 wrong-at-requires-2 c κs = search needs
@@ -125,7 +125,7 @@ returns-6 c =
     let t = c .before .t in
     let pre = c .before .before .before .before .before .pre in
     let token-from = c .before .before .before .token-from in
-    either-stops (now (args .text)) (args .from) (t .given .0 .0) (t .given .0 .1 .0) (args .first) (pre .1) (sym (token-from .ensures) ∙ t .given .1)
+    either-stops (now (args .text)) (args .from) (t .given .0 .0) (t .given .0 .1 .0) (args .first) (pre .0) (sym (token-from .ensures) ∙ t .given .1)
 
 returns-7 : tie.Need-returns-7
 returns-7 c =
@@ -135,7 +135,7 @@ returns-7 c =
     let token-from = c .before .before .before .before .before .before .token-from in
     let wrong-at2 = c .wrong-at2 in
     let if1 = c .before .if1 in
-    either-kind (now (args .text)) (args .from) ((t2 .given) .0 .0) ((t2 .given) .0 .1 .0) ((t2 .given) .0 .1 .1 .0) ((t2 .given) .0 .1 .1 .1 .0) (pre .1) (sym (token-from .ensures) ∙ (t2 .given) .1) (args .first) (wrong-at2 .result) (wrong-at2 .ensures) (if1 .left)
+    either-kind (now (args .text)) (args .from) ((t2 .given) .0 .0) ((t2 .given) .0 .1 .0) ((t2 .given) .0 .1 .1 .0) ((t2 .given) .0 .1 .1 .1 .0) (pre .0) (sym (token-from .ensures) ∙ (t2 .given) .1) (args .first) (wrong-at2 .result) (wrong-at2 .ensures) (if1 .left)
 
 pub read-keyword-spec : {M : Type 1} → statement M
 read-keyword-spec =

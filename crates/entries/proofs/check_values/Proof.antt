@@ -27,9 +27,8 @@ second-value-requires c κs =
     let args = c .before .before .before .before .before .before .args in
     let a2 = c .before .before .a2 in
     let open-value = c .before .before .before .before .open-value in
-    let pre = c .before .before .before .before .before .before .pre in
     let u : OpensValue (now (args .text)) (args .from) (args .signed) (args .unit) (rv.Value (a2 .given .0 .0) (a2 .given .0 .1 .0)) = rw (a2 .given .1) at (open-value .ensures) in
-    (pre .0, u .1 .1)
+    u .1 .1
 
 returns : tie.Need-returns
 returns c =
@@ -46,9 +45,8 @@ expect-requires c κs =
     let args = c .before .before .before .before .before .before .args in
     let a2 = c .before .before .a2 in
     let open-value = c .before .before .before .before .open-value in
-    let pre = c .before .before .before .before .before .before .pre in
     let u : OpensValue (now (args .text)) (args .from) (args .signed) (args .unit) (rv.Value (a2 .given .0 .0) (a2 .given .0 .1 .0)) = rw (a2 .given .1) at (open-value .ensures) in
-    (pre .0, u .1 .1)
+    u .1 .1
 
 enum-known-m : tie.Need-enum-known-m
 enum-known-m c = search needs

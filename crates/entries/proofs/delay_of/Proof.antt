@@ -8,7 +8,7 @@ use Rattle.entries.proofs.delay_of.Tie as tie
 read-iopath-requires : tie.Need-read-iopath-requires
 read-iopath-requires c κs =
     let pre = c .before .before .pre in
-    (pre .0, pre .1)
+    pre .0
 
 returns : tie.Need-returns
 returns c =
@@ -19,7 +19,7 @@ returns c =
 read-interconnect-requires : tie.Need-read-interconnect-requires
 read-interconnect-requires c κs =
     let pre = c .before .before .before .pre in
-    (pre .0, pre .1)
+    pre .0
 
 returns-2 : tie.Need-returns-2
 returns-2 c =
@@ -30,7 +30,7 @@ returns-2 c =
 read-port-delay-requires : tie.Need-read-port-delay-requires
 read-port-delay-requires c κs =
     let pre = c .before .before .before .before .pre in
-    (pre .0, pre .1)
+    pre .0
 
 returns-3 : tie.Need-returns-3
 returns-3 c =
@@ -41,7 +41,7 @@ returns-3 c =
 read-device-requires : tie.Need-read-device-requires
 read-device-requires c κs =
     let pre = c .before .before .before .before .pre in
-    (pre .0, pre .1)
+    pre .0
 
 returns-4 : tie.Need-returns-4
 returns-4 c =
@@ -51,7 +51,7 @@ returns-4 c =
     let if3 = c .before .if3 in
     let pre = c .before .before .before .before .before .pre in
     let read-device = c .read-device in
-    let f : args .k ≡ 4 = (let a = if1 .left in let b = if2 .left in let d = if3 .left in omega (arith, a, b, d, pre .2, pre .3)) in
+    let f : args .k ≡ 4 = (let a = if1 .left in let b = if2 .left in let d = if3 .left in omega (arith, a, b, d, pre .1, pre .2)) in
     rw f (read-device .ensures)
 
 pub delay-of-spec : {M : Type 1} → statement M

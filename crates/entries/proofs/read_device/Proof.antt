@@ -31,7 +31,7 @@ read-values-requires c κs =
     let args = c .before .before .before .before .before .before .args in
     let t2 = c .before .before .t2 in
     let token-from = c .before .before .before .before .token-from in
-    (pre .0, (ahead (now (args .text)) (args .from) ((t2 .given) .0 .0) ((t2 .given) .0 .1 .0) ((t2 .given) .0 .1 .1 .0) ((t2 .given) .0 .1 .1 .1 .0) (pre .1) (sym (token-from .ensures) ∙ (t2 .given) .1)) .1)
+    (ahead (now (args .text)) (args .from) ((t2 .given) .0 .0) ((t2 .given) .0 .1 .0) ((t2 .given) .0 .1 .1 .0) ((t2 .given) .0 .1 .1 .1 .0) pre (sym (token-from .ensures) ∙ (t2 .given) .1)) .1
 
 with-values-requires : tie.Need-with-values-requires
 with-values-requires c κs = search needs
@@ -45,7 +45,7 @@ returns c =
     let token-from = c .before .before .before .before .before .before .token-from in
     let read-values = c .before .read-values in
     let if1 = c .before .before .if1 in
-    rw (with-values .ensures) (en.device-bare (now (args .text)) (args .from) (args .slash) (args .unit) 4 (args .group) (args .place) ((t2 .given) .0 .0) ((t2 .given) .0 .1 .0) ((t2 .given) .0 .1 .1 .0) ((t2 .given) .0 .1 .1 .1 .0) (pre .1) (sym (token-from .ensures) ∙ (t2 .given) .1) (read-values .result .status) (take (read-values .result .count) (read-values .result .list)) (if1 .taken) (read-values .ensures .0), read-values .ensures .1)
+    rw (with-values .ensures) (en.device-bare (now (args .text)) (args .from) (args .slash) (args .unit) 4 (args .group) (args .place) ((t2 .given) .0 .0) ((t2 .given) .0 .1 .0) ((t2 .given) .0 .1 .1 .0) ((t2 .given) .0 .1 .1 .1 .0) pre (sym (token-from .ensures) ∙ (t2 .given) .1) (read-values .result .status) (take (read-values .result .count) (read-values .result .list)) (if1 .taken) (read-values .ensures .0), read-values .ensures .1)
 
 port-here-requires : tie.Need-port-here-requires
 port-here-requires c κs =
@@ -53,7 +53,7 @@ port-here-requires c κs =
     let t2 = c .before .before .t2 in
     let pre = c .before .before .before .before .before .before .pre in
     let token-from = c .before .before .before .before .token-from in
-    let g = (onwards (now (args .text)) (args .from) ((t2 .given) .0 .0) ((t2 .given) .0 .1 .0) ((t2 .given) .0 .1 .1 .0) ((t2 .given) .0 .1 .1 .1 .0) (pre .1) (sym (token-from .ensures) ∙ (t2 .given) .1)) in (omega arith, g .2)
+    let g = (onwards (now (args .text)) (args .from) ((t2 .given) .0 .0) ((t2 .given) .0 .1 .0) ((t2 .given) .0 .1 .1 .0) ((t2 .given) .0 .1 .1 .1 .0) pre (sym (token-from .ensures) ∙ (t2 .given) .1)) in (omega arith, g .2)
 
 open-values-requires : tie.Need-open-values-requires
 open-values-requires c κs =
@@ -61,7 +61,7 @@ open-values-requires c κs =
     let args = c .before .before .before .before .before .before .before .before .args in
     let t2 = c .before .before .before .before .t2 in
     let token-from = c .before .before .before .before .before .before .token-from in
-    (pre .0, (ahead (now (args .text)) (args .from) ((t2 .given) .0 .0) ((t2 .given) .0 .1 .0) ((t2 .given) .0 .1 .1 .0) ((t2 .given) .0 .1 .1 .1 .0) (pre .1) (sym (token-from .ensures) ∙ (t2 .given) .1)) .1)
+    (ahead (now (args .text)) (args .from) ((t2 .given) .0 .0) ((t2 .given) .0 .1 .0) ((t2 .given) .0 .1 .1 .0) ((t2 .given) .0 .1 .1 .1 .0) pre (sym (token-from .ensures) ∙ (t2 .given) .1)) .1
 
 with-values-requires-2 : tie.Need-with-values-requires-2
 with-values-requires-2 c κs = search needs
@@ -77,7 +77,7 @@ returns-2 c =
     let if1 = c .before .before .before .before .if1 in
     let if2 = c .before .before .if2 in
     let port-here = c .before .before .before .port-here in
-    rw (with-values2 .ensures) (en.device-done (now (args .text)) (args .from) (args .slash) (args .unit) 4 (args .group) (args .place) ((t2 .given) .0 .0) ((t2 .given) .0 .1 .0) ((t2 .given) .0 .1 .1 .0) ((t2 .given) .0 .1 .1 .1 .0) (pre .1) (sym (token-from .ensures) ∙ (t2 .given) .1) (open-values .result .status) (take (open-values .result .count) (open-values .result .list)) (if1 .left) (subst (λ (n : ℕ). PortHere (placed (now (args .text)) ((t2 .given) .0 .0) ((t2 .given) .0 .1 .0) ((t2 .given) .0 .1 .1 .0) ((t2 .given) .0 .1 .1 .1 .0)) (args .slash) n) (if2 .taken) (port-here .ensures)) (open-values .ensures .0), open-values .ensures .1)
+    rw (with-values2 .ensures) (en.device-done (now (args .text)) (args .from) (args .slash) (args .unit) 4 (args .group) (args .place) ((t2 .given) .0 .0) ((t2 .given) .0 .1 .0) ((t2 .given) .0 .1 .1 .0) ((t2 .given) .0 .1 .1 .1 .0) pre (sym (token-from .ensures) ∙ (t2 .given) .1) (open-values .result .status) (take (open-values .result .count) (open-values .result .list)) (if1 .left) (subst (λ (n : ℕ). PortHere (placed (now (args .text)) ((t2 .given) .0 .0) ((t2 .given) .0 .1 .0) ((t2 .given) .0 .1 .1 .0) ((t2 .given) .0 .1 .1 .1 .0)) (args .slash) n) (if2 .taken) (port-here .ensures)) (open-values .ensures .0), open-values .ensures .1)
 
 no-entry-requires-2 : tie.Need-no-entry-requires-2
 no-entry-requires-2 c κs = search needs
@@ -89,7 +89,7 @@ returns-3 c =
     let t = c .before .before .t in
     let pre = c .before .before .before .before .before .before .pre in
     let token-from = c .before .before .before .before .token-from in
-    (rw (no-entry .ensures .0) (en.device-stops (now (args .text)) (args .from) (args .slash) (args .unit) 4 (args .group) (args .place) (t .given .0 .0) (t .given .0 .1 .0) (no-entry .result .entry) (take (no-entry .result .count) (no-entry .result .list)) (pre .1) (sym (token-from .ensures) ∙ t .given .1)), no-entry .ensures .1)
+    (rw (no-entry .ensures .0) (en.device-stops (now (args .text)) (args .from) (args .slash) (args .unit) 4 (args .group) (args .place) (t .given .0 .0) (t .given .0 .1 .0) (no-entry .result .entry) (take (no-entry .result .count) (no-entry .result .list)) pre (sym (token-from .ensures) ∙ t .given .1)), no-entry .ensures .1)
 
 returns-4 : tie.Need-returns-4
 returns-4 c =
@@ -101,7 +101,7 @@ returns-4 c =
     let port-here = c .before .before .port-here in
     let if1 = c .before .before .before .if1 in
     let if2 = c .before .if2 in
-    (rw (no-entry2 .ensures .0) (en.device-not (now (args .text)) (args .from) (args .slash) (args .unit) 4 (args .group) (args .place) ((t2 .given) .0 .0) ((t2 .given) .0 .1 .0) ((t2 .given) .0 .1 .1 .0) ((t2 .given) .0 .1 .1 .1 .0) (pre .1) (sym (token-from .ensures) ∙ (t2 .given) .1) (port-here .result) (no-entry2 .result .entry) (take (no-entry2 .result .count) (no-entry2 .result .list)) (if1 .left) (if2 .left) (port-here .ensures)), no-entry2 .ensures .1)
+    (rw (no-entry2 .ensures .0) (en.device-not (now (args .text)) (args .from) (args .slash) (args .unit) 4 (args .group) (args .place) ((t2 .given) .0 .0) ((t2 .given) .0 .1 .0) ((t2 .given) .0 .1 .1 .0) ((t2 .given) .0 .1 .1 .1 .0) pre (sym (token-from .ensures) ∙ (t2 .given) .1) (port-here .result) (no-entry2 .result .entry) (take (no-entry2 .result .count) (no-entry2 .result .list)) (if1 .left) (if2 .left) (port-here .ensures)), no-entry2 .ensures .1)
 
 pub read-device-spec : {M : Type 1} → statement M
 read-device-spec =

@@ -31,9 +31,8 @@ read-port-requires-2 c κs =
     let args = c .before .before .before .before .before .args in
     let a2 = c .before .a2 in
     let read-port = c .before .before .before .read-port in
-    let pre = c .before .before .before .before .before .pre in
     let a' : ReadsPort (now (args .text)) (args .from) (args .slash) (rn.Name (a2 .given .0 .0) (a2 .given .0 .1 .0)) = rw (a2 .given .1) at (read-port .ensures) in
-    (pre .0, a' .5)
+    a' .5
 
 enum-known-b : tie.Need-enum-known-b
 enum-known-b c = search needs
@@ -51,10 +50,9 @@ open-values-requires c κs =
     let read-port = c .before .before .before .before .before .before .before .read-port in
     let b2 = c .before .b2 in
     let read-port2 = c .before .before .before .read-port2 in
-    let pre = c .before .before .before .before .before .before .before .before .before .pre in
     let a' : ReadsPort (now (args .text)) (args .from) (args .slash) (rn.Name (a2 .given .0 .0) (a2 .given .0 .1 .0)) = rw (a2 .given .1) at (read-port .ensures) in
     let w : ReadsPort (now (args .text)) (a2 .given .0 .1 .0) (args .slash) (rn.Name (b2 .given .0 .0) (b2 .given .0 .1 .0)) = rw (b2 .given .1) at (read-port2 .ensures) in
-    (pre .0, w .5)
+    w .5
 
 with-values-requires : tie.Need-with-values-requires
 with-values-requires c κs = search needs

@@ -32,9 +32,8 @@ read-port-requires c κs =
     let args = c .before .before .before .before .before .args in
     let a2 = c .before .a2 in
     let read-end = c .before .before .before .read-end in
-    let pre = c .before .before .before .before .before .pre in
     let a' : ReadsEnd (now (args .text)) (args .from) false (args .slash) (re.End (a2 .given .0 .0) (a2 .given .0 .1 .0) (a2 .given .0 .1 .1 .0) (a2 .given .0 .1 .1 .1 .0)) = rw (a2 .given .1) at (read-end .ensures) in
-    (pre .0, a' .2)
+    a' .2
 
 enum-known-b : tie.Need-enum-known-b
 enum-known-b c = search needs
@@ -52,10 +51,9 @@ open-values-requires c κs =
     let read-end = c .before .before .before .before .before .before .before .read-end in
     let b2 = c .before .b2 in
     let read-port = c .before .before .before .read-port in
-    let pre = c .before .before .before .before .before .before .before .before .before .pre in
     let a' : ReadsEnd (now (args .text)) (args .from) false (args .slash) (re.End (a2 .given .0 .0) (a2 .given .0 .1 .0) (a2 .given .0 .1 .1 .0) (a2 .given .0 .1 .1 .1 .0)) = rw (a2 .given .1) at (read-end .ensures) in
     let w : ReadsPort (now (args .text)) (a2 .given .0 .1 .1 .1 .0) (args .slash) (rn.Name (b2 .given .0 .0) (b2 .given .0 .1 .0)) = rw (b2 .given .1) at (read-port .ensures) in
-    (pre .0, w .5)
+    w .5
 
 with-values-requires : tie.Need-with-values-requires
 with-values-requires c κs = search needs

@@ -31,9 +31,8 @@ read-end-requires-2 c κs =
     let args = c .before .before .before .before .before .args in
     let a2 = c .before .a2 in
     let read-end = c .before .before .before .read-end in
-    let pre = c .before .before .before .before .before .pre in
     let a' : ReadsEnd (now (args .text)) (args .from) false (args .slash) (re.End (a2 .given .0 .0) (a2 .given .0 .1 .0) (a2 .given .0 .1 .1 .0) (a2 .given .0 .1 .1 .1 .0)) = rw (a2 .given .1) at (read-end .ensures) in
-    (pre .0, a' .2)
+    a' .2
 
 enum-known-b : tie.Need-enum-known-b
 enum-known-b c = search needs
@@ -51,10 +50,9 @@ check-values-requires c κs =
     let read-end = c .before .before .before .before .before .before .before .read-end in
     let b2 = c .before .b2 in
     let read-end2 = c .before .before .before .read-end2 in
-    let pre = c .before .before .before .before .before .before .before .before .before .pre in
     let a' : ReadsEnd (now (args .text)) (args .from) false (args .slash) (re.End (a2 .given .0 .0) (a2 .given .0 .1 .0) (a2 .given .0 .1 .1 .0) (a2 .given .0 .1 .1 .1 .0)) = rw (a2 .given .1) at (read-end .ensures) in
     let w : ReadsEnd (now (args .text)) (a2 .given .0 .1 .1 .1 .0) true (args .slash) (re.End (b2 .given .0 .0) (b2 .given .0 .1 .0) (b2 .given .0 .1 .1 .0) (b2 .given .0 .1 .1 .1 .0)) = rw (b2 .given .1) at (read-end2 .ensures) in
-    (pre .0, w .2)
+    w .2
 
 with-values-requires : tie.Need-with-values-requires
 with-values-requires c κs = search needs

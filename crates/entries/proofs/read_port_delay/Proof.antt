@@ -29,9 +29,8 @@ open-values-requires c κs =
     let args = c .before .before .before .before .before .args in
     let a2 = c .before .a2 in
     let read-port = c .before .before .before .read-port in
-    let pre = c .before .before .before .before .before .pre in
     let a' : ReadsPort (now (args .text)) (args .from) (args .slash) (rn.Name (a2 .given .0 .0) (a2 .given .0 .1 .0)) = rw (a2 .given .1) at (read-port .ensures) in
-    (pre .0, a' .5)
+    a' .5
 
 with-values-requires : tie.Need-with-values-requires
 with-values-requires c κs = search needs

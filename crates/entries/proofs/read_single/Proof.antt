@@ -28,9 +28,8 @@ check-values-requires c κs =
     let args = c .before .before .before .before .before .args in
     let a2 = c .before .a2 in
     let read-end = c .before .before .before .read-end in
-    let pre = c .before .before .before .before .before .pre in
     let a' : ReadsEnd (now (args .text)) (args .from) false (args .slash) (re.End (a2 .given .0 .0) (a2 .given .0 .1 .0) (a2 .given .0 .1 .1 .0) (a2 .given .0 .1 .1 .1 .0)) = rw (a2 .given .1) at (read-end .ensures) in
-    (pre .0, a' .2)
+    a' .2
 
 with-values-requires : tie.Need-with-values-requires
 with-values-requires c κs = search needs

@@ -27,9 +27,8 @@ expect-requires c κs =
     let args = c .before .before .before .before .before .args in
     let b2 = c .before .b2 in
     let open-value = c .before .before .before .open-value in
-    let pre = c .before .before .before .before .before .pre in
     let w : OpensValue (now (args .text)) (args .from) (args .signed) (args .unit) (rv.Value (b2 .given .0 .0) (b2 .given .0 .1 .0)) = rw (b2 .given .1) at (open-value .ensures) in
-    (pre .0, w .1 .1)
+    w .1 .1
 
 enum-known-m : tie.Need-enum-known-m
 enum-known-m c = search needs

@@ -28,7 +28,7 @@ edge-here-requires c κs =
     let t2 = c .before .t2 in
     let pre = c .before .before .before .before .before .pre in
     let token-from = c .before .before .before .token-from in
-    let g = (onwards (now (args .text)) (args .from) ((t2 .given) .0 .0) ((t2 .given) .0 .1 .0) ((t2 .given) .0 .1 .1 .0) ((t2 .given) .0 .1 .1 .1 .0) (pre .1) (sym (token-from .ensures) ∙ (t2 .given) .1)) in (omega arith, g .2)
+    let g = (onwards (now (args .text)) (args .from) ((t2 .given) .0 .0) ((t2 .given) .0 .1 .0) ((t2 .given) .0 .1 .1 .0) ((t2 .given) .0 .1 .1 .1 .0) pre (sym (token-from .ensures) ∙ (t2 .given) .1)) in (omega arith, g .2)
 
 enum-known-g : tie.Need-enum-known-g
 enum-known-g c = search needs
@@ -42,7 +42,7 @@ read-port-requires c κs =
     let args = c .before .before .before .before .before .before .before .before .before .args in
     let t2 = c .before .before .before .before .before .t2 in
     let token-from = c .before .before .before .before .before .before .before .token-from in
-    (pre .0, (ahead (now (args .text)) (args .from) ((t2 .given) .0 .0) ((t2 .given) .0 .1 .0) ((t2 .given) .0 .1 .1 .0) ((t2 .given) .0 .1 .1 .1 .0) (pre .1) (sym (token-from .ensures) ∙ (t2 .given) .1)) .1)
+    (ahead (now (args .text)) (args .from) ((t2 .given) .0 .0) ((t2 .given) .0 .1 .0) ((t2 .given) .0 .1 .1 .0) ((t2 .given) .0 .1 .1 .1 .0) pre (sym (token-from .ensures) ∙ (t2 .given) .1)) .1
 
 enum-known-q : tie.Need-enum-known-q
 enum-known-q c = search needs
@@ -56,9 +56,8 @@ expect-requires c κs =
     let t2 = c .before .before .before .before .before .before .before .before .before .t2 in
     let q2 = c .before .q2 in
     let read-port = c .before .before .before .read-port in
-    let pre = c .before .before .before .before .before .before .before .before .before .before .before .before .before .pre in
     let w : ReadsPort (now (args .text)) ((t2 .given) .0 .1 .1 .0) (args .slash) (rn.Name (q2 .given .0 .0) (q2 .given .0 .1 .0)) = rw (q2 .given .1) at (read-port .ensures) in
-    (pre .0, w .5)
+    w .5
 
 enum-known-m : tie.Need-enum-known-m
 enum-known-m c = search needs
@@ -72,7 +71,7 @@ returns c =
     let t = c .before .t in
     let pre = c .before .before .before .before .before .pre in
     let token-from = c .before .before .before .token-from in
-    edged-stops (now (args .text)) (args .from) (t .given .0 .0) (t .given .0 .1 .0) (args .second) (args .slash) (pre .1) (sym (token-from .ensures) ∙ t .given .1)
+    edged-stops (now (args .text)) (args .from) (t .given .0 .0) (t .given .0 .1 .0) (args .second) (args .slash) pre (sym (token-from .ensures) ∙ t .given .1)
 
 returns-2 : tie.Need-returns-2
 returns-2 c =
@@ -83,7 +82,7 @@ returns-2 c =
     let pre = c .before .before .before .before .before .before .before .before .before .pre in
     let token-from = c .before .before .before .before .before .before .before .token-from in
     let a : EdgeIs (placed (now (args .text)) ((t2 .given) .0 .0) ((t2 .given) .0 .1 .0) ((t2 .given) .0 .1 .1 .0) ((t2 .given) .0 .1 .1 .1 .0)) (eh.Refused (g .given .0 .0)) = rw (g .given .1) at (edge-here .ensures) in
-    edged-not (now (args .text)) (args .from) ((t2 .given) .0 .0) ((t2 .given) .0 .1 .0) ((t2 .given) .0 .1 .1 .0) ((t2 .given) .0 .1 .1 .1 .0) (pre .1) (sym (token-from .ensures) ∙ (t2 .given) .1) (args .slash) (args .second) (g .given .0 .0) a
+    edged-not (now (args .text)) (args .from) ((t2 .given) .0 .0) ((t2 .given) .0 .1 .0) ((t2 .given) .0 .1 .1 .0) ((t2 .given) .0 .1 .1 .1 .0) pre (sym (token-from .ensures) ∙ (t2 .given) .1) (args .slash) (args .second) (g .given .0 .0) a
 
 returns-3 : tie.Need-returns-3
 returns-3 c =
@@ -97,7 +96,7 @@ returns-3 c =
     let token-from = c .before .before .before .before .before .before .before .before .before .before .before .token-from in
     let a : EdgeIs (placed (now (args .text)) ((t2 .given) .0 .0) ((t2 .given) .0 .1 .0) ((t2 .given) .0 .1 .1 .0) ((t2 .given) .0 .1 .1 .1 .0)) (eh.Edge (g2 .given .0 .0)) = rw (g2 .given .1) at (edge-here .ensures) in
     let w : ReadsPort (now (args .text)) ((t2 .given) .0 .1 .1 .0) (args .slash) (rn.Refused (q .given .0 .0) (q .given .0 .1 .0)) = rw (q .given .1) at (read-port .ensures) in
-    edged-port-not (now (args .text)) (args .from) ((t2 .given) .0 .0) ((t2 .given) .0 .1 .0) ((t2 .given) .0 .1 .1 .0) ((t2 .given) .0 .1 .1 .1 .0) (pre .1) (sym (token-from .ensures) ∙ (t2 .given) .1) (args .slash) (args .second) (g2 .given .0 .0) (q .given .0 .0) (q .given .0 .1 .0) a w
+    edged-port-not (now (args .text)) (args .from) ((t2 .given) .0 .0) ((t2 .given) .0 .1 .0) ((t2 .given) .0 .1 .1 .0) ((t2 .given) .0 .1 .1 .1 .0) pre (sym (token-from .ensures) ∙ (t2 .given) .1) (args .slash) (args .second) (g2 .given .0 .0) (q .given .0 .0) (q .given .0 .1 .0) a w
 
 returns-4 : tie.Need-returns-4
 returns-4 c =
@@ -114,7 +113,7 @@ returns-4 c =
     let a : EdgeIs (placed (now (args .text)) ((t2 .given) .0 .0) ((t2 .given) .0 .1 .0) ((t2 .given) .0 .1 .1 .0) ((t2 .given) .0 .1 .1 .1 .0)) (eh.Edge (g2 .given .0 .0)) = rw (g2 .given .1) at (edge-here .ensures) in
     let w : ReadsPort (now (args .text)) ((t2 .given) .0 .1 .1 .0) (args .slash) (rn.Name (q2 .given .0 .0) (q2 .given .0 .1 .0)) = rw (q2 .given .1) at (read-port .ensures) in
     let x : Marked (now (args .text)) (q2 .given .0 .1 .0) 3 (mark.Refused (m .given .0 .0) (m .given .0 .1 .0)) = rw (m .given .1) at (expect .ensures) in
-    edged-open (now (args .text)) (args .from) ((t2 .given) .0 .0) ((t2 .given) .0 .1 .0) ((t2 .given) .0 .1 .1 .0) ((t2 .given) .0 .1 .1 .1 .0) (pre .1) (sym (token-from .ensures) ∙ (t2 .given) .1) (args .slash) (args .second) (g2 .given .0 .0) (q2 .given .0 .0) (q2 .given .0 .1 .0) (m .given .0 .0) (m .given .0 .1 .0) a w x
+    edged-open (now (args .text)) (args .from) ((t2 .given) .0 .0) ((t2 .given) .0 .1 .0) ((t2 .given) .0 .1 .1 .0) ((t2 .given) .0 .1 .1 .1 .0) pre (sym (token-from .ensures) ∙ (t2 .given) .1) (args .slash) (args .second) (g2 .given .0 .0) (q2 .given .0 .0) (q2 .given .0 .1 .0) (m .given .0 .0) (m .given .0 .1 .0) a w x
 
 returns-5 : tie.Need-returns-5
 returns-5 c =
@@ -131,7 +130,7 @@ returns-5 c =
     let a : EdgeIs (placed (now (args .text)) ((t2 .given) .0 .0) ((t2 .given) .0 .1 .0) ((t2 .given) .0 .1 .1 .0) ((t2 .given) .0 .1 .1 .1 .0)) (eh.Edge (g2 .given .0 .0)) = rw (g2 .given .1) at (edge-here .ensures) in
     let w : ReadsPort (now (args .text)) ((t2 .given) .0 .1 .1 .0) (args .slash) (rn.Name (q2 .given .0 .0) (q2 .given .0 .1 .0)) = rw (q2 .given .1) at (read-port .ensures) in
     let x : Marked (now (args .text)) (q2 .given .0 .1 .0) 3 (mark.At (m2 .given .0 .0)) = rw (m2 .given .1) at (expect .ensures) in
-    edged-done (now (args .text)) (args .from) ((t2 .given) .0 .0) ((t2 .given) .0 .1 .0) ((t2 .given) .0 .1 .1 .0) ((t2 .given) .0 .1 .1 .1 .0) (pre .1) (sym (token-from .ensures) ∙ (t2 .given) .1) (args .slash) (args .second) (g2 .given .0 .0) (q2 .given .0 .0) (q2 .given .0 .1 .0) (m2 .given .0 .0) a w x
+    edged-done (now (args .text)) (args .from) ((t2 .given) .0 .0) ((t2 .given) .0 .1 .0) ((t2 .given) .0 .1 .1 .0) ((t2 .given) .0 .1 .1 .1 .0) pre (sym (token-from .ensures) ∙ (t2 .given) .1) (args .slash) (args .second) (g2 .given .0 .0) (q2 .given .0 .0) (q2 .given .0 .1 .0) (m2 .given .0 .0) a w x
 
 pub read-edged-spec : {M : Type 1} → statement M
 read-edged-spec =

@@ -26,7 +26,7 @@ read-edged-requires c κs =
     let args = c .before .before .before .before .before .before .args in
     let t2 = c .before .before .t2 in
     let token-from = c .before .before .before .before .token-from in
-    (pre .0, (ahead (now (args .text)) (args .from) ((t2 .given) .0 .0) ((t2 .given) .0 .1 .0) ((t2 .given) .0 .1 .1 .0) ((t2 .given) .0 .1 .1 .1 .0) (pre .1) (sym (token-from .ensures) ∙ (t2 .given) .1)) .1)
+    (ahead (now (args .text)) (args .from) ((t2 .given) .0 .0) ((t2 .given) .0 .1 .0) ((t2 .given) .0 .1 .1 .0) ((t2 .given) .0 .1 .1 .1 .0) pre (sym (token-from .ensures) ∙ (t2 .given) .1)) .1
 
 returns : tie.Need-returns
 returns c =
@@ -36,7 +36,7 @@ returns c =
     let token-from = c .before .before .before .before .before .token-from in
     let read-edged = c .read-edged in
     let if1 = c .before .if1 in
-    end-edged (now (args .text)) (args .from) ((t2 .given) .0 .0) ((t2 .given) .0 .1 .0) ((t2 .given) .0 .1 .1 .0) ((t2 .given) .0 .1 .1 .1 .0) (pre .1) (sym (token-from .ensures) ∙ (t2 .given) .1) (args .slash) (args .second) (read-edged .result) (if1 .taken) (read-edged .ensures)
+    end-edged (now (args .text)) (args .from) ((t2 .given) .0 .0) ((t2 .given) .0 .1 .0) ((t2 .given) .0 .1 .1 .0) ((t2 .given) .0 .1 .1 .1 .0) pre (sym (token-from .ensures) ∙ (t2 .given) .1) (args .slash) (args .second) (read-edged .result) (if1 .taken) (read-edged .ensures)
 
 port-here-requires : tie.Need-port-here-requires
 port-here-requires c κs =
@@ -44,7 +44,7 @@ port-here-requires c κs =
     let t2 = c .before .before .t2 in
     let pre = c .before .before .before .before .before .before .pre in
     let token-from = c .before .before .before .before .token-from in
-    let g = (onwards (now (args .text)) (args .from) ((t2 .given) .0 .0) ((t2 .given) .0 .1 .0) ((t2 .given) .0 .1 .1 .0) ((t2 .given) .0 .1 .1 .1 .0) (pre .1) (sym (token-from .ensures) ∙ (t2 .given) .1)) in (omega arith, g .2)
+    let g = (onwards (now (args .text)) (args .from) ((t2 .given) .0 .0) ((t2 .given) .0 .1 .0) ((t2 .given) .0 .1 .1 .0) ((t2 .given) .0 .1 .1 .1 .0) pre (sym (token-from .ensures) ∙ (t2 .given) .1)) in (omega arith, g .2)
 
 returns-2 : tie.Need-returns-2
 returns-2 c =
@@ -55,7 +55,7 @@ returns-2 c =
     let if1 = c .before .before .if1 in
     let if2 = c .if2 in
     let port-here = c .before .port-here in
-    end-plain (now (args .text)) (args .from) ((t2 .given) .0 .0) ((t2 .given) .0 .1 .0) ((t2 .given) .0 .1 .1 .0) ((t2 .given) .0 .1 .1 .1 .0) (pre .1) (sym (token-from .ensures) ∙ (t2 .given) .1) (args .slash) (args .second) (if1 .left) (subst (λ (n : ℕ). PortHere (placed (now (args .text)) ((t2 .given) .0 .0) ((t2 .given) .0 .1 .0) ((t2 .given) .0 .1 .1 .0) ((t2 .given) .0 .1 .1 .1 .0)) (args .slash) n) (if2 .taken) (port-here .ensures))
+    end-plain (now (args .text)) (args .from) ((t2 .given) .0 .0) ((t2 .given) .0 .1 .0) ((t2 .given) .0 .1 .1 .0) ((t2 .given) .0 .1 .1 .1 .0) pre (sym (token-from .ensures) ∙ (t2 .given) .1) (args .slash) (args .second) (if1 .left) (subst (λ (n : ℕ). PortHere (placed (now (args .text)) ((t2 .given) .0 .0) ((t2 .given) .0 .1 .0) ((t2 .given) .0 .1 .1 .0) ((t2 .given) .0 .1 .1 .1 .0)) (args .slash) n) (if2 .taken) (port-here .ensures))
 
 returns-3 : tie.Need-returns-3
 returns-3 c =
@@ -63,7 +63,7 @@ returns-3 c =
     let t = c .before .t in
     let pre = c .before .before .before .before .before .pre in
     let token-from = c .before .before .before .token-from in
-    end-stops (now (args .text)) (args .from) (t .given .0 .0) (t .given .0 .1 .0) (args .second) (args .slash) (pre .1) (sym (token-from .ensures) ∙ t .given .1)
+    end-stops (now (args .text)) (args .from) (t .given .0 .0) (t .given .0 .1 .0) (args .second) (args .slash) pre (sym (token-from .ensures) ∙ t .given .1)
 
 returns-4 : tie.Need-returns-4
 returns-4 c =
@@ -74,7 +74,7 @@ returns-4 c =
     let port-here = c .before .port-here in
     let if1 = c .before .before .if1 in
     let if2 = c .if2 in
-    end-not (now (args .text)) (args .from) ((t2 .given) .0 .0) ((t2 .given) .0 .1 .0) ((t2 .given) .0 .1 .1 .0) ((t2 .given) .0 .1 .1 .1 .0) (pre .1) (sym (token-from .ensures) ∙ (t2 .given) .1) (args .slash) (args .second) (port-here .result) (if1 .left) (if2 .left) (port-here .ensures)
+    end-not (now (args .text)) (args .from) ((t2 .given) .0 .0) ((t2 .given) .0 .1 .0) ((t2 .given) .0 .1 .1 .0) ((t2 .given) .0 .1 .1 .1 .0) pre (sym (token-from .ensures) ∙ (t2 .given) .1) (args .slash) (args .second) (port-here .result) (if1 .left) (if2 .left) (port-here .ensures)
 
 pub read-end-spec : {M : Type 1} → statement M
 read-end-spec =

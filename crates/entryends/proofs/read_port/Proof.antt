@@ -26,7 +26,7 @@ port-here-requires c κs =
     let t2 = c .before .t2 in
     let pre = c .before .before .before .before .before .pre in
     let token-from = c .before .before .before .token-from in
-    let g = (onwards (now (args .text)) (args .from) ((t2 .given) .0 .0) ((t2 .given) .0 .1 .0) ((t2 .given) .0 .1 .1 .0) ((t2 .given) .0 .1 .1 .1 .0) (pre .1) (sym (token-from .ensures) ∙ (t2 .given) .1)) in (omega arith, g .2)
+    let g = (onwards (now (args .text)) (args .from) ((t2 .given) .0 .0) ((t2 .given) .0 .1 .0) ((t2 .given) .0 .1 .1 .0) ((t2 .given) .0 .1 .1 .1 .0) pre (sym (token-from .ensures) ∙ (t2 .given) .1)) in (omega arith, g .2)
 
 returns : tie.Need-returns
 returns c =
@@ -36,7 +36,7 @@ returns c =
     let token-from = c .before .before .before .before .before .token-from in
     let if1 = c .if1 in
     let port-here = c .before .port-here in
-    port-got (now (args .text)) (args .from) ((t2 .given) .0 .0) ((t2 .given) .0 .1 .0) ((t2 .given) .0 .1 .1 .0) ((t2 .given) .0 .1 .1 .1 .0) (pre .1) (sym (token-from .ensures) ∙ (t2 .given) .1) (args .slash) (subst (λ (n : ℕ). PortHere (placed (now (args .text)) ((t2 .given) .0 .0) ((t2 .given) .0 .1 .0) ((t2 .given) .0 .1 .1 .0) ((t2 .given) .0 .1 .1 .1 .0)) (args .slash) n) (if1 .taken) (port-here .ensures))
+    port-got (now (args .text)) (args .from) ((t2 .given) .0 .0) ((t2 .given) .0 .1 .0) ((t2 .given) .0 .1 .1 .0) ((t2 .given) .0 .1 .1 .1 .0) pre (sym (token-from .ensures) ∙ (t2 .given) .1) (args .slash) (subst (λ (n : ℕ). PortHere (placed (now (args .text)) ((t2 .given) .0 .0) ((t2 .given) .0 .1 .0) ((t2 .given) .0 .1 .1 .0) ((t2 .given) .0 .1 .1 .1 .0)) (args .slash) n) (if1 .taken) (port-here .ensures))
 
 returns-2 : tie.Need-returns-2
 returns-2 c =
@@ -44,7 +44,7 @@ returns-2 c =
     let t = c .before .t in
     let pre = c .before .before .before .before .before .pre in
     let token-from = c .before .before .before .token-from in
-    port-stops (now (args .text)) (args .from) (t .given .0 .0) (t .given .0 .1 .0) (args .slash) (pre .1) (sym (token-from .ensures) ∙ t .given .1)
+    port-stops (now (args .text)) (args .from) (t .given .0 .0) (t .given .0 .1 .0) (args .slash) pre (sym (token-from .ensures) ∙ t .given .1)
 
 returns-3 : tie.Need-returns-3
 returns-3 c =
@@ -54,7 +54,7 @@ returns-3 c =
     let token-from = c .before .before .before .before .before .token-from in
     let port-here = c .before .port-here in
     let if1 = c .if1 in
-    port-not (now (args .text)) (args .from) ((t2 .given) .0 .0) ((t2 .given) .0 .1 .0) ((t2 .given) .0 .1 .1 .0) ((t2 .given) .0 .1 .1 .1 .0) (pre .1) (sym (token-from .ensures) ∙ (t2 .given) .1) (args .slash) (port-here .result) (if1 .left) (port-here .ensures)
+    port-not (now (args .text)) (args .from) ((t2 .given) .0 .0) ((t2 .given) .0 .1 .0) ((t2 .given) .0 .1 .1 .0) ((t2 .given) .0 .1 .1 .1 .0) pre (sym (token-from .ensures) ∙ (t2 .given) .1) (args .slash) (port-here .result) (if1 .left) (port-here .ensures)
 
 pub read-port-spec : {M : Type 1} → statement M
 read-port-spec =

@@ -28,9 +28,8 @@ take-opened-requires-2 c κs =
     let take-opened = c .before .before .before .before .take-opened in
     let file2 = c .before .file2 in
     let expect-key = c .before .before .before .expect-key in
-    let pre = c .before .before .before .before .before .before .pre in
     let b : KeyRead (now (args .text)) (take-opened .result) 41 (mark.At (file2 .given .0 .0)) = rw (file2 .given .1) at (expect-key .ensures) in
-    (pre, b .1)
+    b .1
 
 expect-key-requires-2 : tie.Need-expect-key-requires-2
 expect-key-requires-2 c κs =
@@ -49,9 +48,8 @@ read-heading-requires c κs =
     let take-opened2 = c .before .before .before .before .before .take-opened2 in
     let version2 = c .before .before .version2 in
     let expect-key2 = c .before .before .before .before .expect-key2 in
-    let pre = c .before .before .before .before .before .before .before .before .before .before .before .before .pre in
     let d : KeyRead (now (args .text)) (take-opened2 .result) 42 (mark.At (version2 .given .0 .0)) = rw (version2 .given .1) at (expect-key2 .ensures) in
-    (pre, d .1, search needs)
+    (d .1, search needs)
 
 returns : tie.Need-returns
 returns c =

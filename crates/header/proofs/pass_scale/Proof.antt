@@ -22,8 +22,8 @@ read-scale-requires c κs =
     let args = c .before .before .before .before .before .args in
     let hand2 = c .before .before .hand2 in
     let pre = c .before .before .before .before .before .pre in
-    let i : InHand (now (args .text)) (held.At ((hand2 .given) .0 .0) ((hand2 .given) .0 .1 .0) ((hand2 .given) .0 .1 .1 .0) ((hand2 .given) .0 .1 .1 .1 .0) ((hand2 .given) .0 .1 .1 .1 .1 .0) ((hand2 .given) .0 .1 .1 .1 .1 .1 .0)) = rw ((hand2 .given) .1) at (pre .1) in
-    (pre .0, ahead (now (args .text)) ((hand2 .given) .0 .0) ((hand2 .given) .0 .1 .0) ((hand2 .given) .0 .1 .1 .0) ((hand2 .given) .0 .1 .1 .1 .0) ((hand2 .given) .0 .1 .1 .1 .1 .0) (i .0) (i .1) .1)
+    let i : InHand (now (args .text)) (held.At ((hand2 .given) .0 .0) ((hand2 .given) .0 .1 .0) ((hand2 .given) .0 .1 .1 .0) ((hand2 .given) .0 .1 .1 .1 .0) ((hand2 .given) .0 .1 .1 .1 .1 .0) ((hand2 .given) .0 .1 .1 .1 .1 .1 .0)) = rw ((hand2 .given) .1) at pre in
+    ahead (now (args .text)) ((hand2 .given) .0 .0) ((hand2 .given) .0 .1 .0) ((hand2 .given) .0 .1 .1 .0) ((hand2 .given) .0 .1 .1 .1 .0) ((hand2 .given) .0 .1 .1 .1 .1 .0) (i .0) (i .1) .1
 
 enum-known-end : tie.Need-enum-known-end
 enum-known-end c = search needs
@@ -36,7 +36,7 @@ returns c =
     let end = c .before .end in
     let read-scale = c .before .before .before .read-scale in
     let if1 = c .before .before .before .before .if1 in
-    let i : InHand (now (args .text)) (held.At ((hand2 .given) .0 .0) ((hand2 .given) .0 .1 .0) ((hand2 .given) .0 .1 .1 .0) ((hand2 .given) .0 .1 .1 .1 .0) ((hand2 .given) .0 .1 .1 .1 .1 .0) ((hand2 .given) .0 .1 .1 .1 .1 .1 .0)) = rw ((hand2 .given) .1) at (pre .1) in
+    let i : InHand (now (args .text)) (held.At ((hand2 .given) .0 .0) ((hand2 .given) .0 .1 .0) ((hand2 .given) .0 .1 .1 .0) ((hand2 .given) .0 .1 .1 .1 .0) ((hand2 .given) .0 .1 .1 .1 .1 .0) ((hand2 .given) .0 .1 .1 .1 .1 .1 .0)) = rw ((hand2 .given) .1) at pre in
     let w : ScaleRead (now (args .text)) ((hand2 .given) .0 .1 .1 .1 .0) (mark.Refused (end .given .0 .0) (end .given .0 .1 .0)) (read-scale .result .unit) = rw (end .given .1) at (read-scale .ensures .0) in
     (rw ((hand2 .given) .1) (scale-there-not (now (args .text)) ((hand2 .given) .0 .0) ((hand2 .given) .0 .1 .0) ((hand2 .given) .0 .1 .1 .0) ((hand2 .given) .0 .1 .1 .1 .0) ((hand2 .given) .0 .1 .1 .1 .1 .0) ((hand2 .given) .0 .1 .1 .1 .1 .1 .0) i (end .given .0 .0) (end .given .0 .1 .0) (read-scale .result .unit) (if1 .taken) w), read-scale .ensures .1)
 
@@ -49,9 +49,8 @@ take-next-requires c κs =
     let hand2 = c .before .before .before .before .before .before .hand2 in
     let end2 = c .before .end2 in
     let read-scale = c .before .before .before .read-scale in
-    let pre = c .before .before .before .before .before .before .before .before .before .pre in
     let w : ScaleRead (now (args .text)) ((hand2 .given) .0 .1 .1 .1 .0) (mark.At (end2 .given .0 .0)) (read-scale .result .unit) = rw (end2 .given .1) at (read-scale .ensures .0) in
-    (pre .0, w .1)
+    w .1
 
 returns-2 : tie.Need-returns-2
 returns-2 c =
@@ -62,7 +61,7 @@ returns-2 c =
     let read-scale = c .before .before .before .before .read-scale in
     let take-next = c .take-next in
     let if1 = c .before .before .before .before .before .if1 in
-    let i : InHand (now (args .text)) (held.At ((hand2 .given) .0 .0) ((hand2 .given) .0 .1 .0) ((hand2 .given) .0 .1 .1 .0) ((hand2 .given) .0 .1 .1 .1 .0) ((hand2 .given) .0 .1 .1 .1 .1 .0) ((hand2 .given) .0 .1 .1 .1 .1 .1 .0)) = rw ((hand2 .given) .1) at (pre .1) in
+    let i : InHand (now (args .text)) (held.At ((hand2 .given) .0 .0) ((hand2 .given) .0 .1 .0) ((hand2 .given) .0 .1 .1 .0) ((hand2 .given) .0 .1 .1 .1 .0) ((hand2 .given) .0 .1 .1 .1 .1 .0) ((hand2 .given) .0 .1 .1 .1 .1 .1 .0)) = rw ((hand2 .given) .1) at pre in
     let w : ScaleRead (now (args .text)) ((hand2 .given) .0 .1 .1 .1 .0) (mark.At (end2 .given .0 .0)) (read-scale .result .unit) = rw (end2 .given .1) at (read-scale .ensures .0) in
     (rw ((hand2 .given) .1) (scale-there (now (args .text)) ((hand2 .given) .0 .0) ((hand2 .given) .0 .1 .0) ((hand2 .given) .0 .1 .1 .0) ((hand2 .given) .0 .1 .1 .1 .0) ((hand2 .given) .0 .1 .1 .1 .1 .0) ((hand2 .given) .0 .1 .1 .1 .1 .1 .0) i (end2 .given .0 .0) (read-scale .result .unit) (take-next .result) (if1 .taken) w (take-next .ensures)), read-scale .ensures .1)
 
@@ -78,7 +77,7 @@ returns-4 c =
     let hand2 = c .before .before .hand2 in
     let pre = c .before .before .before .before .before .pre in
     let if1 = c .if1 in
-    let i : InHand (now (args .text)) (held.At ((hand2 .given) .0 .0) ((hand2 .given) .0 .1 .0) ((hand2 .given) .0 .1 .1 .0) ((hand2 .given) .0 .1 .1 .1 .0) ((hand2 .given) .0 .1 .1 .1 .1 .0) ((hand2 .given) .0 .1 .1 .1 .1 .1 .0)) = rw ((hand2 .given) .1) at (pre .1) in
+    let i : InHand (now (args .text)) (held.At ((hand2 .given) .0 .0) ((hand2 .given) .0 .1 .0) ((hand2 .given) .0 .1 .1 .0) ((hand2 .given) .0 .1 .1 .1 .0) ((hand2 .given) .0 .1 .1 .1 .1 .0) ((hand2 .given) .0 .1 .1 .1 .1 .1 .0)) = rw ((hand2 .given) .1) at pre in
     (rw ((hand2 .given) .1) (scale-over (now (args .text)) ((hand2 .given) .0 .0) ((hand2 .given) .0 .1 .0) ((hand2 .given) .0 .1 .1 .0) ((hand2 .given) .0 .1 .1 .1 .0) ((hand2 .given) .0 .1 .1 .1 .1 .0) ((hand2 .given) .0 .1 .1 .1 .1 .1 .0) i (if1 .left)), search needs)
 
 pub pass-scale-spec : {M : Type 1} → statement M

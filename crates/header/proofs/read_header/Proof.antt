@@ -9,69 +9,57 @@ use Rattle.header.proofs.read_header.Statement.{statement}
 use Rattle.header.proofs.read_header.Tie as tie
 
 open-file-requires : tie.Need-open-file-requires
-open-file-requires c κs =
-    let pre = c .before .before .pre in
-    pre
+open-file-requires c κs = search needs
 
 pass-text-requires : tie.Need-pass-text-requires
 pass-text-requires c κs =
-    let pre = c .before .before .before .before .pre in
     let open-file = c .before .open-file in
-    (pre, open-file .ensures .1, λ d. refl, search needs, search needs)
+    (open-file .ensures .1, λ d. refl, search needs, search needs)
 
 pass-text-requires-2 : tie.Need-pass-text-requires-2
 pass-text-requires-2 c κs =
-    let pre = c .before .before .before .before .before .before .pre in
     let pass-text = c .before .pass-text in
-    (pre, pass-text .ensures .1, λ d. refl, search needs, search needs)
+    (pass-text .ensures .1, λ d. refl, search needs, search needs)
 
 pass-text-requires-3 : tie.Need-pass-text-requires-3
 pass-text-requires-3 c κs =
-    let pre = c .before .before .before .before .before .before .before .before .pre in
     let pass-text2 = c .before .pass-text2 in
-    (pre, pass-text2 .ensures .1, λ d. refl, search needs, search needs)
+    (pass-text2 .ensures .1, λ d. refl, search needs, search needs)
 
 pass-text-requires-4 : tie.Need-pass-text-requires-4
 pass-text-requires-4 c κs =
-    let pre = c .before .before .before .before .before .before .before .before .before .before .pre in
     let pass-text3 = c .before .pass-text3 in
-    (pre, pass-text3 .ensures .1, λ d. refl, search needs, search needs)
+    (pass-text3 .ensures .1, λ d. refl, search needs, search needs)
 
 pass-text-requires-5 : tie.Need-pass-text-requires-5
 pass-text-requires-5 c κs =
-    let pre = c .before .before .before .before .before .before .before .before .before .before .before .before .pre in
     let pass-text4 = c .before .pass-text4 in
-    (pre, pass-text4 .ensures .1, λ d. refl, search needs, search needs)
+    (pass-text4 .ensures .1, λ d. refl, search needs, search needs)
 
 pass-divider-requires : tie.Need-pass-divider-requires
 pass-divider-requires c κs =
-    let pre = c .before .before .before .before .before .before .before .before .before .before .before .before .before .pre in
     let pass-text5 = c .pass-text5 in
-    (pre, pass-text5 .ensures .1)
+    pass-text5 .ensures .1
 
 pass-bare-requires : tie.Need-pass-bare-requires
 pass-bare-requires c κs =
-    let pre = c .before .before .before .before .before .before .before .before .before .before .before .before .before .before .pre in
     let pass-divider = c .pass-divider in
-    (pre, pass-divider .ensures .1, λ d. refl, search needs)
+    (pass-divider .ensures .1, λ d. refl, search needs)
 
 pass-text-requires-6 : tie.Need-pass-text-requires-6
 pass-text-requires-6 c κs =
-    let pre = c .before .before .before .before .before .before .before .before .before .before .before .before .before .before .before .before .pre in
     let pass-bare = c .before .pass-bare in
-    (pre, pass-bare .ensures [] .1, λ d. refl, search needs, search needs)
+    (pass-bare .ensures [] .1, λ d. refl, search needs, search needs)
 
 pass-bare-requires-2 : tie.Need-pass-bare-requires-2
 pass-bare-requires-2 c κs =
-    let pre = c .before .before .before .before .before .before .before .before .before .before .before .before .before .before .before .before .before .pre in
     let pass-text6 = c .pass-text6 in
-    (pre, pass-text6 .ensures .1, λ d. refl, search needs)
+    (pass-text6 .ensures .1, λ d. refl, search needs)
 
 pass-scale-requires : tie.Need-pass-scale-requires
 pass-scale-requires c κs =
-    let pre = c .before .before .before .before .before .before .before .before .before .before .before .before .before .before .before .before .before .before .pre in
     let pass-bare2 = c .pass-bare2 in
-    (pre, pass-bare2 .ensures [] .1)
+    pass-bare2 .ensures [] .1
 
 returns : tie.Need-returns
 returns c =

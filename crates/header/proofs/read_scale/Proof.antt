@@ -28,7 +28,7 @@ sub-scale-of c =
     let t2 = c .before .before .t2 in
     let pre = c .before .before .before .before .before .before .pre in
     let token-from = c .before .before .before .before .token-from in
-    let g = (onwards (now (args .text)) (args .from) ((t2 .given) .0 .0) ((t2 .given) .0 .1 .0) ((t2 .given) .0 .1 .1 .0) ((t2 .given) .0 .1 .1 .1 .0) (pre .1) (sym (token-from .ensures) ∙ (t2 .given) .1)) in omega arith
+    let g = (onwards (now (args .text)) (args .from) ((t2 .given) .0 .0) ((t2 .given) .0 .1 .0) ((t2 .given) .0 .1 .1 .0) ((t2 .given) .0 .1 .1 .1 .0) pre (sym (token-from .ensures) ∙ (t2 .given) .1)) in omega arith
 
 part-scale-of-start : tie.Need-part-scale-of-start
 part-scale-of-start c =
@@ -36,7 +36,7 @@ part-scale-of-start c =
     let t2 = c .before .before .t2 in
     let pre = c .before .before .before .before .before .before .pre in
     let token-from = c .before .before .before .before .token-from in
-    let g = (onwards (now (args .text)) (args .from) ((t2 .given) .0 .0) ((t2 .given) .0 .1 .0) ((t2 .given) .0 .1 .1 .0) ((t2 .given) .0 .1 .1 .1 .0) (pre .1) (sym (token-from .ensures) ∙ (t2 .given) .1)) in omega arith
+    let g = (onwards (now (args .text)) (args .from) ((t2 .given) .0 .0) ((t2 .given) .0 .1 .0) ((t2 .given) .0 .1 .1 .0) ((t2 .given) .0 .1 .1 .1 .0) pre (sym (token-from .ensures) ∙ (t2 .given) .1)) in omega arith
 
 part-scale-of-end : tie.Need-part-scale-of-end
 part-scale-of-end c =
@@ -44,7 +44,7 @@ part-scale-of-end c =
     let t2 = c .before .before .t2 in
     let pre = c .before .before .before .before .before .before .pre in
     let token-from = c .before .before .before .before .token-from in
-    let g = (onwards (now (args .text)) (args .from) ((t2 .given) .0 .0) ((t2 .given) .0 .1 .0) ((t2 .given) .0 .1 .1 .0) ((t2 .given) .0 .1 .1 .1 .0) (pre .1) (sym (token-from .ensures) ∙ (t2 .given) .1)) in g .2
+    let g = (onwards (now (args .text)) (args .from) ((t2 .given) .0 .0) ((t2 .given) .0 .1 .0) ((t2 .given) .0 .1 .1 .0) ((t2 .given) .0 .1 .1 .1 .0) pre (sym (token-from .ensures) ∙ (t2 .given) .1)) in g .2
 
 scale-of-requires : tie.Need-scale-of-requires
 scale-of-requires c κs = search needs
@@ -59,7 +59,7 @@ returns c =
     let if1 = c .before .before .before .if1 in
     let if2 = c .if2 in
     let m = scale-most (part ((t2 .given) .0 .1 .0) ((t2 .given) .0 .1 .1 .0) (now (args .text))) in let f = scale-of .ensures in
-    (scale-joined (now (args .text)) (args .from) ((t2 .given) .0 .0) ((t2 .given) .0 .1 .0) ((t2 .given) .0 .1 .1 .0) ((t2 .given) .0 .1 .1 .1 .0) (pre .1) (sym (token-from .ensures) ∙ (t2 .given) .1) (scale-of .result) (if1 .taken) f (if2 .taken), omega arith)
+    (scale-joined (now (args .text)) (args .from) ((t2 .given) .0 .0) ((t2 .given) .0 .1 .0) ((t2 .given) .0 .1 .1 .0) ((t2 .given) .0 .1 .1 .1 .0) pre (sym (token-from .ensures) ∙ (t2 .given) .1) (scale-of .result) (if1 .taken) f (if2 .taken), omega arith)
 
 read-unit-requires : tie.Need-read-unit-requires
 read-unit-requires c κs =
@@ -72,7 +72,7 @@ read-unit-requires c κs =
     let token-from = c .before .before .before .before .before .before .before .before .token-from in
     let f = scale-of .ensures in
     let m = scale-gap (part ((t2 .given) .0 .1 .0) ((t2 .given) .0 .1 .1 .0) (now (args .text))) (rw f at (if3 .taken)) (rw f at (if2 .left)) in
-    (pre .0, (ahead (now (args .text)) (args .from) ((t2 .given) .0 .0) ((t2 .given) .0 .1 .0) ((t2 .given) .0 .1 .1 .0) ((t2 .given) .0 .1 .1 .1 .0) (pre .1) (sym (token-from .ensures) ∙ (t2 .given) .1)) .1, omega arith)
+    ((ahead (now (args .text)) (args .from) ((t2 .given) .0 .0) ((t2 .given) .0 .1 .0) ((t2 .given) .0 .1 .1 .0) ((t2 .given) .0 .1 .1 .1 .0) pre (sym (token-from .ensures) ∙ (t2 .given) .1)) .1, omega arith)
 
 returns-2 : tie.Need-returns-2
 returns-2 c =
@@ -85,7 +85,7 @@ returns-2 c =
     let if1 = c .before .before .before .before .before .if1 in
     let if3 = c .before .if3 in
     let if2 = c .before .before .if2 in
-    (scale-split (now (args .text)) (args .from) ((t2 .given) .0 .0) ((t2 .given) .0 .1 .0) ((t2 .given) .0 .1 .1 .0) ((t2 .given) .0 .1 .1 .1 .0) (pre .1) (sym (token-from .ensures) ∙ (t2 .given) .1) (scale-of .result) (read-unit .result .end) (read-unit .result .unit) (if1 .taken) (scale-of .ensures) (if3 .taken) (if2 .left) (read-unit .ensures .0), read-unit .ensures .1)
+    (scale-split (now (args .text)) (args .from) ((t2 .given) .0 .0) ((t2 .given) .0 .1 .0) ((t2 .given) .0 .1 .1 .0) ((t2 .given) .0 .1 .1 .1 .0) pre (sym (token-from .ensures) ∙ (t2 .given) .1) (scale-of .result) (read-unit .result .end) (read-unit .result .unit) (if1 .taken) (scale-of .ensures) (if3 .taken) (if2 .left) (read-unit .ensures .0), read-unit .ensures .1)
 
 no-scale-requires-2 : tie.Need-no-scale-requires-2
 no-scale-requires-2 c κs = search needs
@@ -100,7 +100,7 @@ returns-3 c =
     let if1 = c .before .before .before .before .before .if1 in
     let scale-of = c .before .before .before .scale-of in
     let if3 = c .before .if3 in
-    (rw (no-scale2 .ensures .0) (scale-not (now (args .text)) (args .from) ((t2 .given) .0 .0) ((t2 .given) .0 .1 .0) ((t2 .given) .0 .1 .1 .0) ((t2 .given) .0 .1 .1 .1 .0) (pre .1) (sym (token-from .ensures) ∙ (t2 .given) .1) (no-scale2 .result .unit) (if1 .taken) (rw (scale-of .ensures) at (if3 .left))), no-scale2 .ensures .1)
+    (rw (no-scale2 .ensures .0) (scale-not (now (args .text)) (args .from) ((t2 .given) .0 .0) ((t2 .given) .0 .1 .0) ((t2 .given) .0 .1 .1 .0) ((t2 .given) .0 .1 .1 .1 .0) pre (sym (token-from .ensures) ∙ (t2 .given) .1) (no-scale2 .result .unit) (if1 .taken) (rw (scale-of .ensures) at (if3 .left))), no-scale2 .ensures .1)
 
 no-scale-requires-3 : tie.Need-no-scale-requires-3
 no-scale-requires-3 c κs = search needs
@@ -112,7 +112,7 @@ returns-4 c =
     let t = c .before .before .t in
     let pre = c .before .before .before .before .before .before .pre in
     let token-from = c .before .before .before .before .token-from in
-    (rw (no-scale .ensures .0) (scale-stops (now (args .text)) (args .from) (t .given .0 .0) (t .given .0 .1 .0) (no-scale .result .unit) (pre .1) (sym (token-from .ensures) ∙ t .given .1)), no-scale .ensures .1)
+    (rw (no-scale .ensures .0) (scale-stops (now (args .text)) (args .from) (t .given .0 .0) (t .given .0 .1 .0) (no-scale .result .unit) pre (sym (token-from .ensures) ∙ t .given .1)), no-scale .ensures .1)
 
 returns-5 : tie.Need-returns-5
 returns-5 c =
@@ -122,7 +122,7 @@ returns-5 c =
     let pre = c .before .before .before .before .before .before .before .pre in
     let token-from = c .before .before .before .before .before .token-from in
     let if1 = c .before .if1 in
-    (rw (no-scale3 .ensures .0) (scale-kind (now (args .text)) (args .from) ((t2 .given) .0 .0) ((t2 .given) .0 .1 .0) ((t2 .given) .0 .1 .1 .0) ((t2 .given) .0 .1 .1 .1 .0) (pre .1) (sym (token-from .ensures) ∙ (t2 .given) .1) (no-scale3 .result .unit) (if1 .left)), no-scale3 .ensures .1)
+    (rw (no-scale3 .ensures .0) (scale-kind (now (args .text)) (args .from) ((t2 .given) .0 .0) ((t2 .given) .0 .1 .0) ((t2 .given) .0 .1 .1 .0) ((t2 .given) .0 .1 .1 .1 .0) pre (sym (token-from .ensures) ∙ (t2 .given) .1) (no-scale3 .result .unit) (if1 .left)), no-scale3 .ensures .1)
 
 pub read-scale-spec : {M : Type 1} → statement M
 read-scale-spec =

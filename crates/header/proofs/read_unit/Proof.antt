@@ -27,7 +27,7 @@ sub-unit-of c =
     let t2 = c .before .before .t2 in
     let pre = c .before .before .before .before .before .before .pre in
     let token-from = c .before .before .before .before .token-from in
-    let g = (onwards (now (args .text)) (args .from) ((t2 .given) .0 .0) ((t2 .given) .0 .1 .0) ((t2 .given) .0 .1 .1 .0) ((t2 .given) .0 .1 .1 .1 .0) (pre .1) (sym (token-from .ensures) ∙ (t2 .given) .1)) in omega arith
+    let g = (onwards (now (args .text)) (args .from) ((t2 .given) .0 .0) ((t2 .given) .0 .1 .0) ((t2 .given) .0 .1 .1 .0) ((t2 .given) .0 .1 .1 .1 .0) (pre .0) (sym (token-from .ensures) ∙ (t2 .given) .1)) in omega arith
 
 part-unit-of-start : tie.Need-part-unit-of-start
 part-unit-of-start c =
@@ -35,7 +35,7 @@ part-unit-of-start c =
     let t2 = c .before .before .t2 in
     let pre = c .before .before .before .before .before .before .pre in
     let token-from = c .before .before .before .before .token-from in
-    let g = (onwards (now (args .text)) (args .from) ((t2 .given) .0 .0) ((t2 .given) .0 .1 .0) ((t2 .given) .0 .1 .1 .0) ((t2 .given) .0 .1 .1 .1 .0) (pre .1) (sym (token-from .ensures) ∙ (t2 .given) .1)) in omega arith
+    let g = (onwards (now (args .text)) (args .from) ((t2 .given) .0 .0) ((t2 .given) .0 .1 .0) ((t2 .given) .0 .1 .1 .0) ((t2 .given) .0 .1 .1 .1 .0) (pre .0) (sym (token-from .ensures) ∙ (t2 .given) .1)) in omega arith
 
 part-unit-of-end : tie.Need-part-unit-of-end
 part-unit-of-end c =
@@ -43,18 +43,18 @@ part-unit-of-end c =
     let t2 = c .before .before .t2 in
     let pre = c .before .before .before .before .before .before .pre in
     let token-from = c .before .before .before .before .token-from in
-    let g = (onwards (now (args .text)) (args .from) ((t2 .given) .0 .0) ((t2 .given) .0 .1 .0) ((t2 .given) .0 .1 .1 .0) ((t2 .given) .0 .1 .1 .1 .0) (pre .1) (sym (token-from .ensures) ∙ (t2 .given) .1)) in g .2
+    let g = (onwards (now (args .text)) (args .from) ((t2 .given) .0 .0) ((t2 .given) .0 .1 .0) ((t2 .given) .0 .1 .1 .0) ((t2 .given) .0 .1 .1 .1 .0) (pre .0) (sym (token-from .ensures) ∙ (t2 .given) .1)) in g .2
 
 unit-of-requires : tie.Need-unit-of-requires
 unit-of-requires c κs = search needs
 
-add-t21 : tie.Need-add-t21
-add-t21 c =
+add-t20 : tie.Need-add-t20
+add-t20 c =
     let t2 = c .before .before .before .before .before .t2 in
     let args = c .before .before .before .before .before .before .before .before .before .args in
     let unit-of = c .before .unit-of in
     let pre = c .before .before .before .before .before .before .before .before .before .pre in
-    let m = unit-most (part ((t2 .given) .0 .1 .0) ((t2 .given) .0 .1 .1 .0) (now (args .text))) in let f = unit-of .ensures in omega (arith, pre .2)
+    let m = unit-most (part ((t2 .given) .0 .1 .0) ((t2 .given) .0 .1 .1 .0) (now (args .text))) in let f = unit-of .ensures in omega (arith, pre .1)
 
 returns : tie.Need-returns
 returns c =
@@ -66,7 +66,7 @@ returns c =
     let if1 = c .before .before .before .if1 in
     let if2 = c .if2 in
     let m = unit-most (part ((t2 .given) .0 .1 .0) ((t2 .given) .0 .1 .1 .0) (now (args .text))) in let f = unit-of .ensures in
-    (unit-done (now (args .text)) (args .from) ((t2 .given) .0 .0) ((t2 .given) .0 .1 .0) ((t2 .given) .0 .1 .1 .0) ((t2 .given) .0 .1 .1 .1 .0) (pre .1) (sym (token-from .ensures) ∙ (t2 .given) .1) (args .power) (unit-of .result) (if1 .taken) f (if2 .taken), omega (arith, pre .2))
+    (unit-done (now (args .text)) (args .from) ((t2 .given) .0 .0) ((t2 .given) .0 .1 .0) ((t2 .given) .0 .1 .1 .0) ((t2 .given) .0 .1 .1 .1 .0) (pre .0) (sym (token-from .ensures) ∙ (t2 .given) .1) (args .power) (unit-of .result) (if1 .taken) f (if2 .taken), omega (arith, pre .1))
 
 no-scale-requires-2 : tie.Need-no-scale-requires-2
 no-scale-requires-2 c κs = search needs
@@ -81,7 +81,7 @@ returns-2 c =
     let if1 = c .before .before .before .before .if1 in
     let unit-of = c .before .before .unit-of in
     let if2 = c .before .if2 in
-    (rw (no-scale2 .ensures .0) (unit-not (now (args .text)) (args .from) ((t2 .given) .0 .0) ((t2 .given) .0 .1 .0) ((t2 .given) .0 .1 .1 .0) ((t2 .given) .0 .1 .1 .1 .0) (pre .1) (sym (token-from .ensures) ∙ (t2 .given) .1) (args .power) (no-scale2 .result .unit) (if1 .taken) (rw (unit-of .ensures) at (if2 .left))), no-scale2 .ensures .1)
+    (rw (no-scale2 .ensures .0) (unit-not (now (args .text)) (args .from) ((t2 .given) .0 .0) ((t2 .given) .0 .1 .0) ((t2 .given) .0 .1 .1 .0) ((t2 .given) .0 .1 .1 .1 .0) (pre .0) (sym (token-from .ensures) ∙ (t2 .given) .1) (args .power) (no-scale2 .result .unit) (if1 .taken) (rw (unit-of .ensures) at (if2 .left))), no-scale2 .ensures .1)
 
 no-scale-requires-3 : tie.Need-no-scale-requires-3
 no-scale-requires-3 c κs = search needs
@@ -93,7 +93,7 @@ returns-3 c =
     let t = c .before .before .t in
     let pre = c .before .before .before .before .before .before .pre in
     let token-from = c .before .before .before .before .token-from in
-    (rw (no-scale .ensures .0) (unit-stops (now (args .text)) (args .from) (t .given .0 .0) (t .given .0 .1 .0) (args .power) (no-scale .result .unit) (pre .1) (sym (token-from .ensures) ∙ t .given .1)), no-scale .ensures .1)
+    (rw (no-scale .ensures .0) (unit-stops (now (args .text)) (args .from) (t .given .0 .0) (t .given .0 .1 .0) (args .power) (no-scale .result .unit) (pre .0) (sym (token-from .ensures) ∙ t .given .1)), no-scale .ensures .1)
 
 returns-4 : tie.Need-returns-4
 returns-4 c =
@@ -103,7 +103,7 @@ returns-4 c =
     let pre = c .before .before .before .before .before .before .before .pre in
     let token-from = c .before .before .before .before .before .token-from in
     let if1 = c .before .if1 in
-    (rw (no-scale3 .ensures .0) (unit-kind (now (args .text)) (args .from) ((t2 .given) .0 .0) ((t2 .given) .0 .1 .0) ((t2 .given) .0 .1 .1 .0) ((t2 .given) .0 .1 .1 .1 .0) (pre .1) (sym (token-from .ensures) ∙ (t2 .given) .1) (args .power) (no-scale3 .result .unit) (if1 .left)), no-scale3 .ensures .1)
+    (rw (no-scale3 .ensures .0) (unit-kind (now (args .text)) (args .from) ((t2 .given) .0 .0) ((t2 .given) .0 .1 .0) ((t2 .given) .0 .1 .1 .0) ((t2 .given) .0 .1 .1 .1 .0) (pre .0) (sym (token-from .ensures) ∙ (t2 .given) .1) (args .power) (no-scale3 .result .unit) (if1 .left)), no-scale3 .ensures .1)
 
 pub read-unit-spec : {M : Type 1} → statement M
 read-unit-spec =
@@ -117,7 +117,7 @@ read-unit-spec =
     part-unit-of-start
     part-unit-of-end
     unit-of-requires
-    add-t21
+    add-t20
     returns
     no-scale-requires-2
     returns-2

@@ -23,8 +23,8 @@ read-bare-requires c κs =
     let args = c .before .before .before .before .before .args in
     let hand2 = c .before .before .hand2 in
     let pre = c .before .before .before .before .before .pre in
-    let i : InHand (now (args .text)) (held.At ((hand2 .given) .0 .0) ((hand2 .given) .0 .1 .0) ((hand2 .given) .0 .1 .1 .0) ((hand2 .given) .0 .1 .1 .1 .0) ((hand2 .given) .0 .1 .1 .1 .1 .0) ((hand2 .given) .0 .1 .1 .1 .1 .1 .0)) = rw ((hand2 .given) .1) at (pre .1) in
-    (pre .0, ahead (now (args .text)) ((hand2 .given) .0 .0) ((hand2 .given) .0 .1 .0) ((hand2 .given) .0 .1 .1 .0) ((hand2 .given) .0 .1 .1 .1 .0) ((hand2 .given) .0 .1 .1 .1 .1 .0) (i .0) (i .1) .1)
+    let i : InHand (now (args .text)) (held.At ((hand2 .given) .0 .0) ((hand2 .given) .0 .1 .0) ((hand2 .given) .0 .1 .1 .0) ((hand2 .given) .0 .1 .1 .1 .0) ((hand2 .given) .0 .1 .1 .1 .1 .0) ((hand2 .given) .0 .1 .1 .1 .1 .1 .0)) = rw ((hand2 .given) .1) at (pre .0) in
+    ahead (now (args .text)) ((hand2 .given) .0 .0) ((hand2 .given) .0 .1 .0) ((hand2 .given) .0 .1 .1 .0) ((hand2 .given) .0 .1 .1 .1 .0) ((hand2 .given) .0 .1 .1 .1 .1 .0) (i .0) (i .1) .1
 
 enum-known-m : tie.Need-enum-known-m
 enum-known-m c = search needs
@@ -37,9 +37,9 @@ returns c =
     let m = c .before .m in
     let read-bare = c .before .before .before .read-bare in
     let if1 = c .before .before .before .before .if1 in
-    let i : InHand (now (args .text)) (held.At ((hand2 .given) .0 .0) ((hand2 .given) .0 .1 .0) ((hand2 .given) .0 .1 .1 .0) ((hand2 .given) .0 .1 .1 .1 .0) ((hand2 .given) .0 .1 .1 .1 .1 .0) ((hand2 .given) .0 .1 .1 .1 .1 .1 .0)) = rw ((hand2 .given) .1) at (pre .1) in
+    let i : InHand (now (args .text)) (held.At ((hand2 .given) .0 .0) ((hand2 .given) .0 .1 .0) ((hand2 .given) .0 .1 .1 .0) ((hand2 .given) .0 .1 .1 .1 .0) ((hand2 .given) .0 .1 .1 .1 .1 .0) ((hand2 .given) .0 .1 .1 .1 .1 .1 .0)) = rw ((hand2 .given) .1) at (pre .0) in
     let w : Skips (now (args .text)) ((hand2 .given) .0 .1 .1 .1 .0) bare (mark.Refused (m .given .0 .0) (m .given .0 .1 .0)) = rw (m .given .1) at (read-bare .ensures) in
-    rw ((hand2 .given) .1) (passes-bare-not (now (args .text)) ((hand2 .given) .0 .0) ((hand2 .given) .0 .1 .0) ((hand2 .given) .0 .1 .1 .0) ((hand2 .given) .0 .1 .1 .1 .0) ((hand2 .given) .0 .1 .1 .1 .1 .0) ((hand2 .given) .0 .1 .1 .1 .1 .1 .0) i (args .n) (m .given .0 .0) (m .given .0 .1 .0) (pre .2) (pre .3) (if1 .taken) w)
+    rw ((hand2 .given) .1) (passes-bare-not (now (args .text)) ((hand2 .given) .0 .0) ((hand2 .given) .0 .1 .0) ((hand2 .given) .0 .1 .1 .0) ((hand2 .given) .0 .1 .1 .1 .0) ((hand2 .given) .0 .1 .1 .1 .1 .0) ((hand2 .given) .0 .1 .1 .1 .1 .1 .0) i (args .n) (m .given .0 .0) (m .given .0 .1 .0) (pre .1) (pre .2) (if1 .taken) w)
 
 enum-known-m-2 : tie.Need-enum-known-m-2
 enum-known-m-2 c = search needs
@@ -50,9 +50,8 @@ take-opened-requires c κs =
     let hand2 = c .before .before .before .before .before .before .hand2 in
     let m2 = c .before .m2 in
     let read-bare = c .before .before .before .read-bare in
-    let pre = c .before .before .before .before .before .before .before .before .before .pre in
     let w : Skips (now (args .text)) ((hand2 .given) .0 .1 .1 .1 .0) bare (mark.At (m2 .given .0 .0)) = rw (m2 .given .1) at (read-bare .ensures) in
-    (pre .0, w .1)
+    w .1
 
 returns-2 : tie.Need-returns-2
 returns-2 c =
@@ -63,9 +62,9 @@ returns-2 c =
     let read-bare = c .before .before .before .before .read-bare in
     let take-opened = c .take-opened in
     let if1 = c .before .before .before .before .before .if1 in
-    let i : InHand (now (args .text)) (held.At ((hand2 .given) .0 .0) ((hand2 .given) .0 .1 .0) ((hand2 .given) .0 .1 .1 .0) ((hand2 .given) .0 .1 .1 .1 .0) ((hand2 .given) .0 .1 .1 .1 .1 .0) ((hand2 .given) .0 .1 .1 .1 .1 .1 .0)) = rw ((hand2 .given) .1) at (pre .1) in
+    let i : InHand (now (args .text)) (held.At ((hand2 .given) .0 .0) ((hand2 .given) .0 .1 .0) ((hand2 .given) .0 .1 .1 .0) ((hand2 .given) .0 .1 .1 .1 .0) ((hand2 .given) .0 .1 .1 .1 .1 .0) ((hand2 .given) .0 .1 .1 .1 .1 .1 .0)) = rw ((hand2 .given) .1) at (pre .0) in
     let w : Skips (now (args .text)) ((hand2 .given) .0 .1 .1 .1 .0) bare (mark.At (m2 .given .0 .0)) = rw (m2 .given .1) at (read-bare .ensures) in
-    rw ((hand2 .given) .1) (passes-bare (now (args .text)) ((hand2 .given) .0 .0) ((hand2 .given) .0 .1 .0) ((hand2 .given) .0 .1 .1 .0) ((hand2 .given) .0 .1 .1 .1 .0) ((hand2 .given) .0 .1 .1 .1 .1 .0) ((hand2 .given) .0 .1 .1 .1 .1 .1 .0) i (args .n) (m2 .given .0 .0) (take-opened .result) (pre .2) (pre .3) (if1 .taken) w (take-opened .ensures))
+    rw ((hand2 .given) .1) (passes-bare (now (args .text)) ((hand2 .given) .0 .0) ((hand2 .given) .0 .1 .0) ((hand2 .given) .0 .1 .1 .0) ((hand2 .given) .0 .1 .1 .1 .0) ((hand2 .given) .0 .1 .1 .1 .1 .0) ((hand2 .given) .0 .1 .1 .1 .1 .1 .0) i (args .n) (m2 .given .0 .0) (take-opened .result) (pre .1) (pre .2) (if1 .taken) w (take-opened .ensures))
 
 returns-3 : tie.Need-returns-3
 returns-3 c =
@@ -79,8 +78,8 @@ returns-4 c =
     let hand2 = c .before .before .hand2 in
     let pre = c .before .before .before .before .before .pre in
     let if1 = c .if1 in
-    let i : InHand (now (args .text)) (held.At ((hand2 .given) .0 .0) ((hand2 .given) .0 .1 .0) ((hand2 .given) .0 .1 .1 .0) ((hand2 .given) .0 .1 .1 .1 .0) ((hand2 .given) .0 .1 .1 .1 .1 .0) ((hand2 .given) .0 .1 .1 .1 .1 .1 .0)) = rw ((hand2 .given) .1) at (pre .1) in
-    rw ((hand2 .given) .1) (λ ts. passes-over (now (args .text)) ((hand2 .given) .0 .0) ((hand2 .given) .0 .1 .0) ((hand2 .given) .0 .1 .1 .0) ((hand2 .given) .0 .1 .1 .1 .0) ((hand2 .given) .0 .1 .1 .1 .1 .0) ((hand2 .given) .0 .1 .1 .1 .1 .1 .0) i (args .n) _ (pre .2) (if1 .left) ts)
+    let i : InHand (now (args .text)) (held.At ((hand2 .given) .0 .0) ((hand2 .given) .0 .1 .0) ((hand2 .given) .0 .1 .1 .0) ((hand2 .given) .0 .1 .1 .1 .0) ((hand2 .given) .0 .1 .1 .1 .1 .0) ((hand2 .given) .0 .1 .1 .1 .1 .1 .0)) = rw ((hand2 .given) .1) at (pre .0) in
+    rw ((hand2 .given) .1) (λ ts. passes-over (now (args .text)) ((hand2 .given) .0 .0) ((hand2 .given) .0 .1 .0) ((hand2 .given) .0 .1 .1 .0) ((hand2 .given) .0 .1 .1 .1 .0) ((hand2 .given) .0 .1 .1 .1 .1 .0) ((hand2 .given) .0 .1 .1 .1 .1 .1 .0) i (args .n) _ (pre .1) (if1 .left) ts)
 
 pub pass-bare-spec : {M : Type 1} → statement M
 pass-bare-spec =

@@ -21,8 +21,8 @@ read-divider-requires c κs =
     let args = c .before .before .before .before .before .args in
     let hand2 = c .before .before .hand2 in
     let pre = c .before .before .before .before .before .pre in
-    let i : InHand (now (args .text)) (held.At ((hand2 .given) .0 .0) ((hand2 .given) .0 .1 .0) ((hand2 .given) .0 .1 .1 .0) ((hand2 .given) .0 .1 .1 .1 .0) ((hand2 .given) .0 .1 .1 .1 .1 .0) ((hand2 .given) .0 .1 .1 .1 .1 .1 .0)) = rw ((hand2 .given) .1) at (pre .1) in
-    (pre .0, ahead (now (args .text)) ((hand2 .given) .0 .0) ((hand2 .given) .0 .1 .0) ((hand2 .given) .0 .1 .1 .0) ((hand2 .given) .0 .1 .1 .1 .0) ((hand2 .given) .0 .1 .1 .1 .1 .0) (i .0) (i .1) .1)
+    let i : InHand (now (args .text)) (held.At ((hand2 .given) .0 .0) ((hand2 .given) .0 .1 .0) ((hand2 .given) .0 .1 .1 .0) ((hand2 .given) .0 .1 .1 .1 .0) ((hand2 .given) .0 .1 .1 .1 .1 .0) ((hand2 .given) .0 .1 .1 .1 .1 .1 .0)) = rw ((hand2 .given) .1) at pre in
+    ahead (now (args .text)) ((hand2 .given) .0 .0) ((hand2 .given) .0 .1 .0) ((hand2 .given) .0 .1 .1 .0) ((hand2 .given) .0 .1 .1 .1 .0) ((hand2 .given) .0 .1 .1 .1 .1 .0) (i .0) (i .1) .1
 
 returns : tie.Need-returns
 returns c =
@@ -31,7 +31,7 @@ returns c =
     let pre = c .before .before .before .before .before .before .pre in
     let read-divider = c .read-divider in
     let if1 = c .before .if1 in
-    let i : InHand (now (args .text)) (held.At ((hand2 .given) .0 .0) ((hand2 .given) .0 .1 .0) ((hand2 .given) .0 .1 .1 .0) ((hand2 .given) .0 .1 .1 .1 .0) ((hand2 .given) .0 .1 .1 .1 .1 .0) ((hand2 .given) .0 .1 .1 .1 .1 .1 .0)) = rw ((hand2 .given) .1) at (pre .1) in
+    let i : InHand (now (args .text)) (held.At ((hand2 .given) .0 .0) ((hand2 .given) .0 .1 .0) ((hand2 .given) .0 .1 .1 .0) ((hand2 .given) .0 .1 .1 .1 .0) ((hand2 .given) .0 .1 .1 .1 .1 .0) ((hand2 .given) .0 .1 .1 .1 .1 .1 .0)) = rw ((hand2 .given) .1) at pre in
     rw ((hand2 .given) .1) (divider-there (now (args .text)) ((hand2 .given) .0 .0) ((hand2 .given) .0 .1 .0) ((hand2 .given) .0 .1 .1 .0) ((hand2 .given) .0 .1 .1 .1 .0) ((hand2 .given) .0 .1 .1 .1 .1 .0) ((hand2 .given) .0 .1 .1 .1 .1 .1 .0) i (read-divider .result .hand) (read-divider .result .slash) (if1 .taken) (read-divider .ensures))
 
 returns-2 : tie.Need-returns-2
@@ -46,7 +46,7 @@ returns-3 c =
     let hand2 = c .before .before .hand2 in
     let pre = c .before .before .before .before .before .pre in
     let if1 = c .if1 in
-    let i : InHand (now (args .text)) (held.At ((hand2 .given) .0 .0) ((hand2 .given) .0 .1 .0) ((hand2 .given) .0 .1 .1 .0) ((hand2 .given) .0 .1 .1 .1 .0) ((hand2 .given) .0 .1 .1 .1 .1 .0) ((hand2 .given) .0 .1 .1 .1 .1 .1 .0)) = rw ((hand2 .given) .1) at (pre .1) in
+    let i : InHand (now (args .text)) (held.At ((hand2 .given) .0 .0) ((hand2 .given) .0 .1 .0) ((hand2 .given) .0 .1 .1 .0) ((hand2 .given) .0 .1 .1 .1 .0) ((hand2 .given) .0 .1 .1 .1 .1 .0) ((hand2 .given) .0 .1 .1 .1 .1 .1 .0)) = rw ((hand2 .given) .1) at pre in
     rw ((hand2 .given) .1) (divider-over (now (args .text)) ((hand2 .given) .0 .0) ((hand2 .given) .0 .1 .0) ((hand2 .given) .0 .1 .1 .0) ((hand2 .given) .0 .1 .1 .1 .0) ((hand2 .given) .0 .1 .1 .1 .1 .0) ((hand2 .given) .0 .1 .1 .1 .1 .1 .0) i (if1 .left))
 
 pub pass-divider-spec : {M : Type 1} → statement M

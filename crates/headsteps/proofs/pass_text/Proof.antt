@@ -20,8 +20,8 @@ read-heading-requires c κs =
     let args = c .before .before .before .before .before .before .args in
     let hand2 = c .before .before .before .hand2 in
     let pre = c .before .before .before .before .before .before .pre in
-    let i : InHand (now (args .text)) (held.At ((hand2 .given) .0 .0) ((hand2 .given) .0 .1 .0) ((hand2 .given) .0 .1 .1 .0) ((hand2 .given) .0 .1 .1 .1 .0) ((hand2 .given) .0 .1 .1 .1 .1 .0) ((hand2 .given) .0 .1 .1 .1 .1 .1 .0)) = rw ((hand2 .given) .1) at (pre .1) in
-    (pre .0, ahead (now (args .text)) ((hand2 .given) .0 .0) ((hand2 .given) .0 .1 .0) ((hand2 .given) .0 .1 .1 .0) ((hand2 .given) .0 .1 .1 .1 .0) ((hand2 .given) .0 .1 .1 .1 .1 .0) (i .0) (i .1) .1, pre .4)
+    let i : InHand (now (args .text)) (held.At ((hand2 .given) .0 .0) ((hand2 .given) .0 .1 .0) ((hand2 .given) .0 .1 .1 .0) ((hand2 .given) .0 .1 .1 .1 .0) ((hand2 .given) .0 .1 .1 .1 .1 .0) ((hand2 .given) .0 .1 .1 .1 .1 .1 .0)) = rw ((hand2 .given) .1) at (pre .0) in
+    (ahead (now (args .text)) ((hand2 .given) .0 .0) ((hand2 .given) .0 .1 .0) ((hand2 .given) .0 .1 .1 .0) ((hand2 .given) .0 .1 .1 .1 .0) ((hand2 .given) .0 .1 .1 .1 .1 .0) (i .0) (i .1) .1, pre .3)
 
 returns : tie.Need-returns
 returns c =
@@ -30,8 +30,8 @@ returns c =
     let pre = c .before .before .before .before .before .before .before .pre in
     let read-heading = c .read-heading in
     let if1 = c .before .before .if1 in
-    let i : InHand (now (args .text)) (held.At ((hand2 .given) .0 .0) ((hand2 .given) .0 .1 .0) ((hand2 .given) .0 .1 .1 .0) ((hand2 .given) .0 .1 .1 .1 .0) ((hand2 .given) .0 .1 .1 .1 .1 .0) ((hand2 .given) .0 .1 .1 .1 .1 .1 .0)) = rw ((hand2 .given) .1) at (pre .1) in
-    rw ((hand2 .given) .1) (passes-text (now (args .text)) ((hand2 .given) .0 .0) ((hand2 .given) .0 .1 .0) ((hand2 .given) .0 .1 .1 .0) ((hand2 .given) .0 .1 .1 .1 .0) ((hand2 .given) .0 .1 .1 .1 .1 .0) ((hand2 .given) .0 .1 .1 .1 .1 .1 .0) i (args .n) (args .which) _ _ (read-heading .result) (pre .2) (pre .3) (if1 .taken) (read-heading .ensures))
+    let i : InHand (now (args .text)) (held.At ((hand2 .given) .0 .0) ((hand2 .given) .0 .1 .0) ((hand2 .given) .0 .1 .1 .0) ((hand2 .given) .0 .1 .1 .1 .0) ((hand2 .given) .0 .1 .1 .1 .1 .0) ((hand2 .given) .0 .1 .1 .1 .1 .1 .0)) = rw ((hand2 .given) .1) at (pre .0) in
+    rw ((hand2 .given) .1) (passes-text (now (args .text)) ((hand2 .given) .0 .0) ((hand2 .given) .0 .1 .0) ((hand2 .given) .0 .1 .1 .0) ((hand2 .given) .0 .1 .1 .1 .0) ((hand2 .given) .0 .1 .1 .1 .1 .0) ((hand2 .given) .0 .1 .1 .1 .1 .1 .0) i (args .n) (args .which) _ _ (read-heading .result) (pre .1) (pre .2) (if1 .taken) (read-heading .ensures))
 
 returns-2 : tie.Need-returns-2
 returns-2 c =
@@ -45,8 +45,8 @@ returns-3 c =
     let hand2 = c .before .before .hand2 in
     let pre = c .before .before .before .before .before .pre in
     let if1 = c .if1 in
-    let i : InHand (now (args .text)) (held.At ((hand2 .given) .0 .0) ((hand2 .given) .0 .1 .0) ((hand2 .given) .0 .1 .1 .0) ((hand2 .given) .0 .1 .1 .1 .0) ((hand2 .given) .0 .1 .1 .1 .1 .0) ((hand2 .given) .0 .1 .1 .1 .1 .1 .0)) = rw ((hand2 .given) .1) at (pre .1) in
-    rw ((hand2 .given) .1) (passes-over (now (args .text)) ((hand2 .given) .0 .0) ((hand2 .given) .0 .1 .0) ((hand2 .given) .0 .1 .1 .0) ((hand2 .given) .0 .1 .1 .1 .0) ((hand2 .given) .0 .1 .1 .1 .1 .0) ((hand2 .given) .0 .1 .1 .1 .1 .1 .0) i (args .n) _ (pre .2) (if1 .left) _)
+    let i : InHand (now (args .text)) (held.At ((hand2 .given) .0 .0) ((hand2 .given) .0 .1 .0) ((hand2 .given) .0 .1 .1 .0) ((hand2 .given) .0 .1 .1 .1 .0) ((hand2 .given) .0 .1 .1 .1 .1 .0) ((hand2 .given) .0 .1 .1 .1 .1 .1 .0)) = rw ((hand2 .given) .1) at (pre .0) in
+    rw ((hand2 .given) .1) (passes-over (now (args .text)) ((hand2 .given) .0 .0) ((hand2 .given) .0 .1 .0) ((hand2 .given) .0 .1 .1 .0) ((hand2 .given) .0 .1 .1 .1 .0) ((hand2 .given) .0 .1 .1 .1 .1 .0) ((hand2 .given) .0 .1 .1 .1 .1 .1 .0) i (args .n) _ (pre .1) (if1 .left) _)
 
 pub pass-text-spec : {M : Type 1} → statement M
 pass-text-spec =

@@ -30,7 +30,7 @@ read-bare3-requires c κs =
     let args = c .before .before .before .before .before .before .args in
     let t2 = c .before .before .t2 in
     let token-from = c .before .before .before .before .token-from in
-    (pre .0, (ahead (now (args .text)) (args .from) ((t2 .given) .0 .0) ((t2 .given) .0 .1 .0) ((t2 .given) .0 .1 .1 .0) ((t2 .given) .0 .1 .1 .1 .0) (pre .1) (sym (token-from .ensures) ∙ (t2 .given) .1)) .1)
+    (ahead (now (args .text)) (args .from) ((t2 .given) .0 .0) ((t2 .given) .0 .1 .0) ((t2 .given) .0 .1 .1 .0) ((t2 .given) .0 .1 .1 .1 .0) pre (sym (token-from .ensures) ∙ (t2 .given) .1)) .1
 
 returns : tie.Need-returns
 returns c =
@@ -40,7 +40,7 @@ returns c =
     let token-from = c .before .before .before .before .before .token-from in
     let read-bare3 = c .read-bare3 in
     let if1 = c .before .if1 in
-    bare2-colon (now (args .text)) (args .from) ((t2 .given) .0 .0) ((t2 .given) .0 .1 .0) ((t2 .given) .0 .1 .1 .0) ((t2 .given) .0 .1 .1 .1 .0) (pre .1) (sym (token-from .ensures) ∙ (t2 .given) .1) (args .some) (read-bare3 .result) (if1 .taken) (read-bare3 .ensures)
+    bare2-colon (now (args .text)) (args .from) ((t2 .given) .0 .0) ((t2 .given) .0 .1 .0) ((t2 .given) .0 .1 .1 .0) ((t2 .given) .0 .1 .1 .1 .0) pre (sym (token-from .ensures) ∙ (t2 .given) .1) (args .some) (read-bare3 .result) (if1 .taken) (read-bare3 .ensures)
 
 number-shape-requires : tie.Need-number-shape-requires
 number-shape-requires c κs =
@@ -48,7 +48,7 @@ number-shape-requires c κs =
     let t2 = c .before .before .t2 in
     let pre = c .before .before .before .before .before .before .pre in
     let token-from = c .before .before .before .before .token-from in
-    let g = (onwards (now (args .text)) (args .from) ((t2 .given) .0 .0) ((t2 .given) .0 .1 .0) ((t2 .given) .0 .1 .1 .0) ((t2 .given) .0 .1 .1 .1 .0) (pre .1) (sym (token-from .ensures) ∙ (t2 .given) .1)) in (omega arith, g .2)
+    let g = (onwards (now (args .text)) (args .from) ((t2 .given) .0 .0) ((t2 .given) .0 .1 .0) ((t2 .given) .0 .1 .1 .0) ((t2 .given) .0 .1 .1 .1 .0) pre (sym (token-from .ensures) ∙ (t2 .given) .1)) in (omega arith, g .2)
 
 expect-requires : tie.Need-expect-requires
 expect-requires c κs =
@@ -56,7 +56,7 @@ expect-requires c κs =
     let args = c .before .before .before .before .before .before .before .before .args in
     let t2 = c .before .before .before .before .t2 in
     let token-from = c .before .before .before .before .before .before .token-from in
-    (pre .0, (ahead (now (args .text)) (args .from) ((t2 .given) .0 .0) ((t2 .given) .0 .1 .0) ((t2 .given) .0 .1 .1 .0) ((t2 .given) .0 .1 .1 .1 .0) (pre .1) (sym (token-from .ensures) ∙ (t2 .given) .1)) .1)
+    (ahead (now (args .text)) (args .from) ((t2 .given) .0 .0) ((t2 .given) .0 .1 .0) ((t2 .given) .0 .1 .1 .0) ((t2 .given) .0 .1 .1 .1 .0) pre (sym (token-from .ensures) ∙ (t2 .given) .1)) .1
 
 enum-known-m : tie.Need-enum-known-m
 enum-known-m c = search needs
@@ -73,7 +73,7 @@ returns-2 c =
     let if2 = c .before .before .before .before .if2 in
     let number-shape = c .before .before .before .before .before .number-shape in
     let w : Marked (now (args .text)) ((t2 .given) .0 .1 .1 .0) 4 (mark.Refused (m .given .0 .0) (m .given .0 .1 .0)) = rw (m .given .1) at (expect .ensures) in
-    bare2-open (now (args .text)) (args .from) ((t2 .given) .0 .0) ((t2 .given) .0 .1 .0) ((t2 .given) .0 .1 .1 .0) ((t2 .given) .0 .1 .1 .1 .0) (pre .1) (sym (token-from .ensures) ∙ (t2 .given) .1) (args .some) (m .given .0 .0) (m .given .0 .1 .0) (if1 .left) (subst (λ (n : ℕ). NumberShape (placed (now (args .text)) ((t2 .given) .0 .0) ((t2 .given) .0 .1 .0) ((t2 .given) .0 .1 .1 .0) ((t2 .given) .0 .1 .1 .1 .0)) n) (if2 .taken) (number-shape .ensures)) w
+    bare2-open (now (args .text)) (args .from) ((t2 .given) .0 .0) ((t2 .given) .0 .1 .0) ((t2 .given) .0 .1 .1 .0) ((t2 .given) .0 .1 .1 .1 .0) pre (sym (token-from .ensures) ∙ (t2 .given) .1) (args .some) (m .given .0 .0) (m .given .0 .1 .0) (if1 .left) (subst (λ (n : ℕ). NumberShape (placed (now (args .text)) ((t2 .given) .0 .0) ((t2 .given) .0 .1 .0) ((t2 .given) .0 .1 .1 .0) ((t2 .given) .0 .1 .1 .1 .0)) n) (if2 .taken) (number-shape .ensures)) w
 
 enum-known-m-2 : tie.Need-enum-known-m-2
 enum-known-m-2 c = search needs
@@ -84,9 +84,8 @@ read-bare3-requires-2 c κs =
     let t2 = c .before .before .before .before .before .before .before .before .t2 in
     let m2 = c .before .m2 in
     let expect = c .before .before .before .expect in
-    let pre = c .before .before .before .before .before .before .before .before .before .before .before .before .pre in
     let w : Marked (now (args .text)) ((t2 .given) .0 .1 .1 .0) 4 (mark.At (m2 .given .0 .0)) = rw (m2 .given .1) at (expect .ensures) in
-    (pre .0, w .3)
+    w .3
 
 returns-3 : tie.Need-returns-3
 returns-3 c =
@@ -101,7 +100,7 @@ returns-3 c =
     let if2 = c .before .before .before .before .before .if2 in
     let number-shape = c .before .before .before .before .before .before .number-shape in
     let w : Marked (now (args .text)) ((t2 .given) .0 .1 .1 .0) 4 (mark.At (m2 .given .0 .0)) = rw (m2 .given .1) at (expect .ensures) in
-    bare2-done (now (args .text)) (args .from) ((t2 .given) .0 .0) ((t2 .given) .0 .1 .0) ((t2 .given) .0 .1 .1 .0) ((t2 .given) .0 .1 .1 .1 .0) (pre .1) (sym (token-from .ensures) ∙ (t2 .given) .1) (args .some) (m2 .given .0 .0) (read-bare32 .result) (if1 .left) (subst (λ (n : ℕ). NumberShape (placed (now (args .text)) ((t2 .given) .0 .0) ((t2 .given) .0 .1 .0) ((t2 .given) .0 .1 .1 .0) ((t2 .given) .0 .1 .1 .1 .0)) n) (if2 .taken) (number-shape .ensures)) w (read-bare32 .ensures)
+    bare2-done (now (args .text)) (args .from) ((t2 .given) .0 .0) ((t2 .given) .0 .1 .0) ((t2 .given) .0 .1 .1 .0) ((t2 .given) .0 .1 .1 .1 .0) pre (sym (token-from .ensures) ∙ (t2 .given) .1) (args .some) (m2 .given .0 .0) (read-bare32 .result) (if1 .left) (subst (λ (n : ℕ). NumberShape (placed (now (args .text)) ((t2 .given) .0 .0) ((t2 .given) .0 .1 .0) ((t2 .given) .0 .1 .1 .0) ((t2 .given) .0 .1 .1 .1 .0)) n) (if2 .taken) (number-shape .ensures)) w (read-bare32 .ensures)
 
 returns-4 : tie.Need-returns-4
 returns-4 c =
@@ -109,7 +108,7 @@ returns-4 c =
     let t = c .before .t in
     let pre = c .before .before .before .before .before .pre in
     let token-from = c .before .before .before .token-from in
-    skip-stops (now (args .text)) (args .from) (t .given .0 .0) (t .given .0 .1 .0) (bare2 (args .some)) (pre .1) (sym (token-from .ensures) ∙ t .given .1)
+    skip-stops (now (args .text)) (args .from) (t .given .0 .0) (t .given .0 .1 .0) (bare2 (args .some)) pre (sym (token-from .ensures) ∙ t .given .1)
 
 returns-5 : tie.Need-returns-5
 returns-5 c =
@@ -120,7 +119,7 @@ returns-5 c =
     let number-shape = c .before .number-shape in
     let if1 = c .before .before .if1 in
     let if2 = c .if2 in
-    bare2-wrong (now (args .text)) (args .from) ((t2 .given) .0 .0) ((t2 .given) .0 .1 .0) ((t2 .given) .0 .1 .1 .0) ((t2 .given) .0 .1 .1 .1 .0) (pre .1) (sym (token-from .ensures) ∙ (t2 .given) .1) (args .some) (number-shape .result) (if1 .left) (if2 .left) (number-shape .ensures)
+    bare2-wrong (now (args .text)) (args .from) ((t2 .given) .0 .0) ((t2 .given) .0 .1 .0) ((t2 .given) .0 .1 .1 .0) ((t2 .given) .0 .1 .1 .1 .0) pre (sym (token-from .ensures) ∙ (t2 .given) .1) (args .some) (number-shape .result) (if1 .left) (if2 .left) (number-shape .ensures)
 
 pub read-bare2-spec : {M : Type 1} → statement M
 read-bare2-spec =

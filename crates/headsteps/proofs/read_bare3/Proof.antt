@@ -30,7 +30,7 @@ returns c =
     let token-from = c .before .before .before .before .before .token-from in
     let if1 = c .before .if1 in
     let if2 = c .if2 in
-    bare3-shut (now (args .text)) (args .from) ((t2 .given) .0 .0) ((t2 .given) .0 .1 .0) ((t2 .given) .0 .1 .1 .0) ((t2 .given) .0 .1 .1 .1 .0) (pre .1) (sym (token-from .ensures) ∙ (t2 .given) .1) (args .some) (if1 .taken) (if2 .taken)
+    bare3-shut (now (args .text)) (args .from) ((t2 .given) .0 .0) ((t2 .given) .0 .1 .0) ((t2 .given) .0 .1 .1 .0) ((t2 .given) .0 .1 .1 .1 .0) pre (sym (token-from .ensures) ∙ (t2 .given) .1) (args .some) (if1 .taken) (if2 .taken)
 
 returns-2 : tie.Need-returns-2
 returns-2 c =
@@ -40,7 +40,7 @@ returns-2 c =
     let token-from = c .before .before .before .before .before .token-from in
     let if1 = c .before .if1 in
     let if2 = c .if2 in
-    bare3-lacks (now (args .text)) (args .from) ((t2 .given) .0 .0) ((t2 .given) .0 .1 .0) ((t2 .given) .0 .1 .1 .0) ((t2 .given) .0 .1 .1 .1 .0) (pre .1) (sym (token-from .ensures) ∙ (t2 .given) .1) (args .some) (if1 .taken) (if2 .left)
+    bare3-lacks (now (args .text)) (args .from) ((t2 .given) .0 .0) ((t2 .given) .0 .1 .0) ((t2 .given) .0 .1 .1 .0) ((t2 .given) .0 .1 .1 .1 .0) pre (sym (token-from .ensures) ∙ (t2 .given) .1) (args .some) (if1 .taken) (if2 .left)
 
 number-shape-requires : tie.Need-number-shape-requires
 number-shape-requires c κs =
@@ -48,7 +48,7 @@ number-shape-requires c κs =
     let t2 = c .before .before .t2 in
     let pre = c .before .before .before .before .before .before .pre in
     let token-from = c .before .before .before .before .token-from in
-    let g = (onwards (now (args .text)) (args .from) ((t2 .given) .0 .0) ((t2 .given) .0 .1 .0) ((t2 .given) .0 .1 .1 .0) ((t2 .given) .0 .1 .1 .1 .0) (pre .1) (sym (token-from .ensures) ∙ (t2 .given) .1)) in (omega arith, g .2)
+    let g = (onwards (now (args .text)) (args .from) ((t2 .given) .0 .0) ((t2 .given) .0 .1 .0) ((t2 .given) .0 .1 .1 .0) ((t2 .given) .0 .1 .1 .1 .0) pre (sym (token-from .ensures) ∙ (t2 .given) .1)) in (omega arith, g .2)
 
 expect-requires : tie.Need-expect-requires
 expect-requires c κs =
@@ -56,7 +56,7 @@ expect-requires c κs =
     let args = c .before .before .before .before .before .before .before .before .args in
     let t2 = c .before .before .before .before .t2 in
     let token-from = c .before .before .before .before .before .before .token-from in
-    (pre .0, (ahead (now (args .text)) (args .from) ((t2 .given) .0 .0) ((t2 .given) .0 .1 .0) ((t2 .given) .0 .1 .1 .0) ((t2 .given) .0 .1 .1 .1 .0) (pre .1) (sym (token-from .ensures) ∙ (t2 .given) .1)) .1)
+    (ahead (now (args .text)) (args .from) ((t2 .given) .0 .0) ((t2 .given) .0 .1 .0) ((t2 .given) .0 .1 .1 .0) ((t2 .given) .0 .1 .1 .1 .0) pre (sym (token-from .ensures) ∙ (t2 .given) .1)) .1
 
 returns-3 : tie.Need-returns-3
 returns-3 c =
@@ -68,7 +68,7 @@ returns-3 c =
     let if1 = c .before .before .before .if1 in
     let if3 = c .before .if3 in
     let number-shape = c .before .before .number-shape in
-    bare3-done (now (args .text)) (args .from) ((t2 .given) .0 .0) ((t2 .given) .0 .1 .0) ((t2 .given) .0 .1 .1 .0) ((t2 .given) .0 .1 .1 .1 .0) (pre .1) (sym (token-from .ensures) ∙ (t2 .given) .1) (args .some) (expect .result) (if1 .left) (subst (λ (n : ℕ). NumberShape (placed (now (args .text)) ((t2 .given) .0 .0) ((t2 .given) .0 .1 .0) ((t2 .given) .0 .1 .1 .0) ((t2 .given) .0 .1 .1 .1 .0)) n) (if3 .taken) (number-shape .ensures)) (expect .ensures)
+    bare3-done (now (args .text)) (args .from) ((t2 .given) .0 .0) ((t2 .given) .0 .1 .0) ((t2 .given) .0 .1 .1 .0) ((t2 .given) .0 .1 .1 .1 .0) pre (sym (token-from .ensures) ∙ (t2 .given) .1) (args .some) (expect .result) (if1 .left) (subst (λ (n : ℕ). NumberShape (placed (now (args .text)) ((t2 .given) .0 .0) ((t2 .given) .0 .1 .0) ((t2 .given) .0 .1 .1 .0) ((t2 .given) .0 .1 .1 .1 .0)) n) (if3 .taken) (number-shape .ensures)) (expect .ensures)
 
 returns-4 : tie.Need-returns-4
 returns-4 c =
@@ -76,7 +76,7 @@ returns-4 c =
     let t = c .before .t in
     let pre = c .before .before .before .before .before .pre in
     let token-from = c .before .before .before .token-from in
-    skip-stops (now (args .text)) (args .from) (t .given .0 .0) (t .given .0 .1 .0) (bare3 (args .some)) (pre .1) (sym (token-from .ensures) ∙ t .given .1)
+    skip-stops (now (args .text)) (args .from) (t .given .0 .0) (t .given .0 .1 .0) (bare3 (args .some)) pre (sym (token-from .ensures) ∙ t .given .1)
 
 returns-5 : tie.Need-returns-5
 returns-5 c =
@@ -87,7 +87,7 @@ returns-5 c =
     let number-shape = c .before .number-shape in
     let if1 = c .before .before .if1 in
     let if3 = c .if3 in
-    bare3-wrong (now (args .text)) (args .from) ((t2 .given) .0 .0) ((t2 .given) .0 .1 .0) ((t2 .given) .0 .1 .1 .0) ((t2 .given) .0 .1 .1 .1 .0) (pre .1) (sym (token-from .ensures) ∙ (t2 .given) .1) (args .some) (number-shape .result) (if1 .left) (if3 .left) (number-shape .ensures)
+    bare3-wrong (now (args .text)) (args .from) ((t2 .given) .0 .0) ((t2 .given) .0 .1 .0) ((t2 .given) .0 .1 .1 .0) ((t2 .given) .0 .1 .1 .1 .0) pre (sym (token-from .ensures) ∙ (t2 .given) .1) (args .some) (number-shape .result) (if1 .left) (if3 .left) (number-shape .ensures)
 
 pub read-bare3-spec : {M : Type 1} → statement M
 read-bare3-spec =

@@ -27,9 +27,8 @@ take-next-requires c κs =
     let args = c .before .before .before .before .before .args in
     let name2 = c .before .name2 in
     let read-text = c .before .before .before .read-text in
-    let pre = c .before .before .before .before .before .pre in
     let w : TextRead (now (args .text)) (args .from) (rn.Name (name2 .given .0 .0) (name2 .given .0 .1 .0)) = rw (name2 .given .1) at (read-text .ensures) in
-    (pre .0, w .0 false .5)
+    w .0 false .5
 
 enum-known-hand : tie.Need-enum-known-hand
 enum-known-hand c = search needs

@@ -24,7 +24,7 @@ returns c =
     let token-from = c .before .before .before .before .before .token-from in
     let if1 = c .before .if1 in
     let if2 = c .if2 in
-    text-long (now (args .text)) (args .from) ((t2 .given) .0 .0) ((t2 .given) .0 .1 .0) ((t2 .given) .0 .1 .1 .0) ((t2 .given) .0 .1 .1 .1 .0) (pre .1) (sym (token-from .ensures) ∙ (t2 .given) .1) (if1 .taken) (if2 .taken)
+    text-long (now (args .text)) (args .from) ((t2 .given) .0 .0) ((t2 .given) .0 .1 .0) ((t2 .given) .0 .1 .1 .0) ((t2 .given) .0 .1 .1 .1 .0) pre (sym (token-from .ensures) ∙ (t2 .given) .1) (if1 .taken) (if2 .taken)
 
 returns-2 : tie.Need-returns-2
 returns-2 c =
@@ -34,7 +34,7 @@ returns-2 c =
     let token-from = c .before .before .before .before .before .token-from in
     let if1 = c .before .if1 in
     let if2 = c .if2 in
-    text-fine (now (args .text)) (args .from) ((t2 .given) .0 .0) ((t2 .given) .0 .1 .0) ((t2 .given) .0 .1 .1 .0) ((t2 .given) .0 .1 .1 .1 .0) (pre .1) (sym (token-from .ensures) ∙ (t2 .given) .1) (if1 .taken) (if2 .left)
+    text-fine (now (args .text)) (args .from) ((t2 .given) .0 .0) ((t2 .given) .0 .1 .0) ((t2 .given) .0 .1 .1 .0) ((t2 .given) .0 .1 .1 .1 .0) pre (sym (token-from .ensures) ∙ (t2 .given) .1) (if1 .taken) (if2 .left)
 
 returns-3 : tie.Need-returns-3
 returns-3 c =
@@ -42,7 +42,7 @@ returns-3 c =
     let t = c .before .t in
     let pre = c .before .before .before .before .before .pre in
     let token-from = c .before .before .before .token-from in
-    text-stops (now (args .text)) (args .from) (t .given .0 .0) (t .given .0 .1 .0) (pre .1) (sym (token-from .ensures) ∙ t .given .1)
+    text-stops (now (args .text)) (args .from) (t .given .0 .0) (t .given .0 .1 .0) pre (sym (token-from .ensures) ∙ t .given .1)
 
 returns-4 : tie.Need-returns-4
 returns-4 c =
@@ -51,7 +51,7 @@ returns-4 c =
     let pre = c .before .before .before .before .before .before .pre in
     let token-from = c .before .before .before .before .token-from in
     let if1 = c .if1 in
-    text-kind (now (args .text)) (args .from) ((t2 .given) .0 .0) ((t2 .given) .0 .1 .0) ((t2 .given) .0 .1 .1 .0) ((t2 .given) .0 .1 .1 .1 .0) (pre .1) (sym (token-from .ensures) ∙ (t2 .given) .1) (if1 .left)
+    text-kind (now (args .text)) (args .from) ((t2 .given) .0 .0) ((t2 .given) .0 .1 .0) ((t2 .given) .0 .1 .1 .0) ((t2 .given) .0 .1 .1 .1 .0) pre (sym (token-from .ensures) ∙ (t2 .given) .1) (if1 .left)
 
 pub read-text-spec : {M : Type 1} → statement M
 read-text-spec =

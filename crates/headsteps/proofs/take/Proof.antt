@@ -24,7 +24,7 @@ sub-key-of c =
     let t2 = c .before .before .t2 in
     let pre = c .before .before .before .before .before .before .pre in
     let token-from = c .before .before .before .before .token-from in
-    let g = (onwards (now (args .text)) (args .from) ((t2 .given) .0 .0) ((t2 .given) .0 .1 .0) ((t2 .given) .0 .1 .1 .0) ((t2 .given) .0 .1 .1 .1 .0) (pre .1) (sym (token-from .ensures) ∙ (t2 .given) .1)) in omega arith
+    let g = (onwards (now (args .text)) (args .from) ((t2 .given) .0 .0) ((t2 .given) .0 .1 .0) ((t2 .given) .0 .1 .1 .0) ((t2 .given) .0 .1 .1 .1 .0) pre (sym (token-from .ensures) ∙ (t2 .given) .1)) in omega arith
 
 part-key-of-start : tie.Need-part-key-of-start
 part-key-of-start c =
@@ -32,7 +32,7 @@ part-key-of-start c =
     let t2 = c .before .before .t2 in
     let pre = c .before .before .before .before .before .before .pre in
     let token-from = c .before .before .before .before .token-from in
-    let g = (onwards (now (args .text)) (args .from) ((t2 .given) .0 .0) ((t2 .given) .0 .1 .0) ((t2 .given) .0 .1 .1 .0) ((t2 .given) .0 .1 .1 .1 .0) (pre .1) (sym (token-from .ensures) ∙ (t2 .given) .1)) in omega arith
+    let g = (onwards (now (args .text)) (args .from) ((t2 .given) .0 .0) ((t2 .given) .0 .1 .0) ((t2 .given) .0 .1 .1 .0) ((t2 .given) .0 .1 .1 .1 .0) pre (sym (token-from .ensures) ∙ (t2 .given) .1)) in omega arith
 
 part-key-of-end : tie.Need-part-key-of-end
 part-key-of-end c =
@@ -40,7 +40,7 @@ part-key-of-end c =
     let t2 = c .before .before .t2 in
     let pre = c .before .before .before .before .before .before .pre in
     let token-from = c .before .before .before .before .token-from in
-    let g = (onwards (now (args .text)) (args .from) ((t2 .given) .0 .0) ((t2 .given) .0 .1 .0) ((t2 .given) .0 .1 .1 .0) ((t2 .given) .0 .1 .1 .1 .0) (pre .1) (sym (token-from .ensures) ∙ (t2 .given) .1)) in g .2
+    let g = (onwards (now (args .text)) (args .from) ((t2 .given) .0 .0) ((t2 .given) .0 .1 .0) ((t2 .given) .0 .1 .1 .0) ((t2 .given) .0 .1 .1 .1 .0) pre (sym (token-from .ensures) ∙ (t2 .given) .1)) in g .2
 
 key-of-requires : tie.Need-key-of-requires
 key-of-requires c κs = search needs
@@ -53,7 +53,7 @@ returns c =
     let token-from = c .before .before .before .before .before .before .token-from in
     let key-of = c .key-of in
     let if1 = c .before .before .if1 in
-    take-word (now (args .text)) (args .from) ((t2 .given) .0 .0) ((t2 .given) .0 .1 .0) ((t2 .given) .0 .1 .1 .0) ((t2 .given) .0 .1 .1 .1 .0) (pre .1) (sym (token-from .ensures) ∙ (t2 .given) .1) (key-of .result) (if1 .taken) (key-of .ensures)
+    take-word (now (args .text)) (args .from) ((t2 .given) .0 .0) ((t2 .given) .0 .1 .0) ((t2 .given) .0 .1 .1 .0) ((t2 .given) .0 .1 .1 .1 .0) pre (sym (token-from .ensures) ∙ (t2 .given) .1) (key-of .result) (if1 .taken) (key-of .ensures)
 
 returns-2 : tie.Need-returns-2
 returns-2 c =
@@ -61,7 +61,7 @@ returns-2 c =
     let t = c .before .t in
     let pre = c .before .before .before .before .before .pre in
     let token-from = c .before .before .before .token-from in
-    take-stops (now (args .text)) (args .from) (t .given .0 .0) (t .given .0 .1 .0) (pre .1) (sym (token-from .ensures) ∙ t .given .1)
+    take-stops (now (args .text)) (args .from) (t .given .0 .0) (t .given .0 .1 .0) pre (sym (token-from .ensures) ∙ t .given .1)
 
 returns-3 : tie.Need-returns-3
 returns-3 c =
@@ -70,7 +70,7 @@ returns-3 c =
     let pre = c .before .before .before .before .before .before .pre in
     let token-from = c .before .before .before .before .token-from in
     let if1 = c .if1 in
-    take-other (now (args .text)) (args .from) ((t2 .given) .0 .0) ((t2 .given) .0 .1 .0) ((t2 .given) .0 .1 .1 .0) ((t2 .given) .0 .1 .1 .1 .0) (pre .1) (sym (token-from .ensures) ∙ (t2 .given) .1) (if1 .left)
+    take-other (now (args .text)) (args .from) ((t2 .given) .0 .0) ((t2 .given) .0 .1 .0) ((t2 .given) .0 .1 .1 .0) ((t2 .given) .0 .1 .1 .1 .0) pre (sym (token-from .ensures) ∙ (t2 .given) .1) (if1 .left)
 
 pub take-spec : {M : Type 1} → statement M
 take-spec =

@@ -23,9 +23,8 @@ take-requires c κs =
     let args = c .before .before .before .before .before .args in
     let m2 = c .before .m2 in
     let expect = c .before .before .before .expect in
-    let pre = c .before .before .before .before .before .pre in
     let w : Marked (now (args .text)) (args .from) 2 (mark.At (m2 .given .0 .0)) = rw (m2 .given .1) at (expect .ensures) in
-    (pre .0, w .3)
+    w .3
 
 returns : tie.Need-returns
 returns c =

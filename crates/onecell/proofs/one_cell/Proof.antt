@@ -79,7 +79,7 @@ read-tail-requires c κs =
     let if2 = c .before .before .if2 in
     let a' : Takes (now (args .text)) 0 (⟨ ∷ []) false (hand.At (hand2 .given .0 .0) (hand2 .given .0 .1 .0) (hand2 .given .0 .1 .1 .0) (hand2 .given .0 .1 .1 .1 .0) (hand2 .given .0 .1 .1 .1 .1 .0) (hand2 .given .0 .1 .1 .1 .1 .1 .0)) = rw (hand2 .given .1) at (take-opened .ensures) in
     let g = onwards (now (args .text)) (hand2 .given .0 .0) _ _ _ _ (a' .1 .0) (a' .1 .1) in
-    (pre .0, g .2, omega (arith, pre .2), (let x = if2 .left in omega (arith, x, pre .1)))
+    (g .2, omega (arith, pre .1), (let x = if2 .left in omega (arith, x, pre .0)))
 
 enum-known-tail : tie.Need-enum-known-tail
 enum-known-tail c = search needs
@@ -91,9 +91,8 @@ finish-requires : tie.Need-finish-requires
 finish-requires c κs =
     let tail2 = c .before .tail2 in
     let read-tail = c .before .before .before .before .before .before .before .read-tail in
-    let pre = c .before .before .before .before .before .before .before .before .before .before .before .before .before .before .before .before .before .before .before .pre in
     let t' = rw (tail2 .given .1) at (read-tail .ensures) in
-    (pre .0, t' .5)
+    t' .5
 
 returns-3 : tie.Need-returns-3
 returns-3 c =

@@ -22,9 +22,6 @@ returns c =
     let refused = c .refused in
     file-refused _ 1 0 _ _ _ _ _ (cell-too-long (args .slash) (args .unit) (length (now (args .cells)) / 7) (length (now (args .entries)) / 28) (now (args .text)) (if1 .taken)) refl refl (refused .ensures)
 
-class-table-requires : tie.Need-class-table-requires
-class-table-requires c κs = search needs
-
 one-cell-requires : tie.Need-one-cell-requires
 one-cell-requires c κs = search needs
 
@@ -50,8 +47,8 @@ returns-2 : tie.Need-returns-2
 returns-2 c =
     let first = c .before .before .first in
     let one-cell = c .before .before .before .before .before .before .before .before .one-cell in
-    let args = c .before .before .before .before .before .before .before .before .before .before .before .before .before .before .before .before .before .args in
-    let if1 = c .before .before .before .before .before .before .before .before .before .before .before .before .before .if1 in
+    let args = c .before .before .before .before .before .before .before .before .before .before .before .before .before .before .before .args in
+    let if1 = c .before .before .before .before .before .before .before .before .before .before .before .if1 in
     let refused2 = c .refused2 in
     let a = rw (first .given .1) at (one-cell .ensures) in
     file-refused _ (first .given .0 .0) (first .given .0 .1 .0) _ _ _ _ _ (cell-short (args .slash) (args .unit) (length (now (args .cells)) / 7) (length (now (args .entries)) / 28) (now (args .text)) (if1 .left) ∙ a .0) (a .1 refl .0) (a .1 refl .1) (refused2 .ensures)
@@ -64,11 +61,11 @@ same-length-4 c = search needs
 
 returns-3 : tie.Need-returns-3
 returns-3 c =
-    let first2 = c .before .before .before .before .before .before .before .before .before .first2 in
-    let one-cell = c .before .before .before .before .before .before .before .before .before .before .before .before .before .before .before .one-cell in
-    let args = c .before .before .before .before .before .before .before .before .before .before .before .before .before .before .before .before .before .before .before .before .before .before .before .before .args in
+    let first2 = c .before .before .before .before .before .before .before .before .first2 in
+    let one-cell = c .before .before .before .before .before .before .before .before .before .before .before .before .before .before .one-cell in
+    let args = c .before .before .before .before .before .before .before .before .before .before .before .before .before .before .before .before .before .before .before .before .before .args in
     let one-cell2 = c .before .before .before .before .one-cell2 in
-    let if1 = c .before .before .before .before .before .before .before .before .before .before .before .before .before .before .before .before .before .before .before .before .if1 in
+    let if1 = c .before .before .before .before .before .before .before .before .before .before .before .before .before .before .before .before .before .if1 in
     let a = rw (first2 .given .1) at (one-cell .ensures) in
     file-read _ _ (length (now (args .cells)) / 7) (length (now (args .entries)) / 28) (first2 .given .0 .0) (first2 .given .0 .1 .0) _ _ _ _ _ _ (replicate 14 0) _ (args .slash) _ (args .unit) _ (one-cell2 .result) _ (cell-short (args .slash) (args .unit) (length (now (args .cells)) / 7) (length (now (args .entries)) / 28) (now (args .text)) (if1 .left)) a (one-cell2 .ensures) (refl, refl, refl, refl)
 
@@ -78,7 +75,6 @@ read-cell-spec =
     (tie.spec
     refused-requires
     returns
-    class-table-requires
     one-cell-requires
     enum-known-first
     refused-requires-2

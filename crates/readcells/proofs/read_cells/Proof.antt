@@ -21,16 +21,16 @@ use Rattle.readcells.proofs.read_cells.Statement.{statement}
 use Rattle.readcells.proofs.read_cells.Tie as tie
 
 abbrev Inv-loop : tie.InvT-loop
-Inv-loop text table slash unit fill cellroom entryroom cells₀ entries₀ hand₀ n₀ m₀ cells entries hand n m = (cs : List Cell) × (is : List Item) × (length cs ≡ n) × (length is ≡ m) × (n ≤ cellroom) × (m ≤ entryroom) × InHand text hand × Along text hand₀ slash unit cellroom entryroom hand n m cs is × (cells ≡ filledCells fill cells₀ 0 cs) × (entries ≡ filled fill entries₀ 0 is) × (length cells ≡ length cells₀) × (length entries ≡ length entries₀)
+Inv-loop text slash unit fill cellroom entryroom cells₀ entries₀ hand₀ n₀ m₀ cells entries hand n m = (cs : List Cell) × (is : List Item) × (length cs ≡ n) × (length is ≡ m) × (n ≤ cellroom) × (m ≤ entryroom) × InHand text hand × Along text hand₀ slash unit cellroom entryroom hand n m cs is × (cells ≡ filledCells fill cells₀ 0 cs) × (entries ≡ filled fill entries₀ 0 is) × (length cells ≡ length cells₀) × (length entries ≡ length entries₀)
 
 abbrev μ-loop : tie.MeasureT-loop
-μ-loop text table slash unit fill cellroom entryroom cells₀ entries₀ hand₀ n₀ m₀ cells entries hand n m = cellroom - n
+μ-loop text slash unit fill cellroom entryroom cells₀ entries₀ hand₀ n₀ m₀ cells entries hand n m = cellroom - n
 
 loop-holds : tie.Need-loop-holds Inv-loop μ-loop
 loop-holds c =
     let pre = c .before .before .before .pre in
     let args = c .before .before .before .args in
-    ([], [], refl, refl, omega arith, omega arith, pre .1, left.along-start (now (args .text)) (args .lead) (args .slash) (args .unit) (args .cellroom) (args .entryroom), sym (cells-none (args .fill) (now (args .cells))), sym (filled-none (args .fill) (now (args .entries)) 0), refl, refl)
+    ([], [], refl, refl, omega arith, omega arith, pre .0, left.along-start (now (args .text)) (args .lead) (args .slash) (args .unit) (args .cellroom) (args .entryroom), sym (cells-none (args .fill) (now (args .cells))), sym (filled-none (args .fill) (now (args .entries)) 0), refl, refl)
 
 enum-known-hand : tie.Need-enum-known-hand Inv-loop μ-loop
 enum-known-hand c =
@@ -143,7 +143,7 @@ read-tail-requires c κs =
     let if2 = c .before .before .if2 in
     let i' : InHand (now (args .text)) (hand.At (hand2 .given .0 .0) (hand2 .given .0 .1 .0) (hand2 .given .0 .1 .1 .0) (hand2 .given .0 .1 .1 .1 .0) (hand2 .given .0 .1 .1 .1 .1 .0) (hand2 .given .0 .1 .1 .1 .1 .1 .0)) = rw (hand2 .given .1) at ((loop' .inv) .6) in
     let g = onwards (now (args .text)) (hand2 .given .0 .0) _ _ _ _ (i' .0) (i' .1) in
-    (pre .0, g .2, omega (arith, (loop' .inv) .5, (loop' .inv) .11, pre .3), (let x = if2 .left in omega (arith, x, (loop' .inv) .4, (loop' .inv) .10, pre .2)))
+    (g .2, omega (arith, (loop' .inv) .5, (loop' .inv) .11, pre .2), (let x = if2 .left in omega (arith, x, (loop' .inv) .4, (loop' .inv) .10, pre .1)))
 
 enum-known-tail : tie.Need-enum-known-tail Inv-loop μ-loop
 enum-known-tail c =
@@ -154,13 +154,13 @@ same-length-7 : tie.Need-same-length-7 Inv-loop μ-loop
 same-length-7 c =
     let read-tail = c .before .before .before .before .before .before .before .read-tail in
     let loop' = c .before .before .before .before .before .before .before .before .before .before .before .before .before .before .before .loop in
-    (read-tail .kept .1 .1 .1 .1 .1 .1 .1 .1 .1 .1 .0) ∙ (loop' .inv) .10
+    (read-tail .kept .1 .1 .1 .1 .1 .1 .1 .1 .1 .0) ∙ (loop' .inv) .10
 
 same-length-8 : tie.Need-same-length-8 Inv-loop μ-loop
 same-length-8 c =
     let read-tail = c .before .before .before .before .before .before .before .read-tail in
     let loop' = c .before .before .before .before .before .before .before .before .before .before .before .before .before .before .before .loop in
-    (read-tail .kept .1 .1 .1 .1 .1 .1 .1 .1 .1 .1 .1 .0) ∙ (loop' .inv) .11
+    (read-tail .kept .1 .1 .1 .1 .1 .1 .1 .1 .1 .1 .0) ∙ (loop' .inv) .11
 
 returns-4 : tie.Need-returns-4 Inv-loop μ-loop
 returns-4 c =
@@ -195,16 +195,15 @@ add-m c =
     let loop' = c .before .before .before .before .before .before .before .before .before .before .before .before .before .before .before .loop in
     let pre = c .before .before .before .before .before .before .before .before .before .before .before .before .before .before .before .before .before .before .before .pre in
     let t' = rw (tail2 .given .1) at (read-tail .ensures) in
-    let g = good .1 .1 .1 .1 .1 .1 .1 .1 .1 .0 in
-    omega (arith, t' .4, (loop' .inv) .5, pre .3, g)
+    let g = good .1 .1 .1 .1 .1 .1 .1 .1 .0 in
+    omega (arith, t' .4, (loop' .inv) .5, pre .2, g)
 
 cell-more-requires : tie.Need-cell-more-requires Inv-loop μ-loop
 cell-more-requires c κs =
     let tail2 = c .before .tail2 in
     let read-tail = c .before .before .before .before .before .before .before .read-tail in
-    let pre = c .before .before .before .before .before .before .before .before .before .before .before .before .before .before .before .before .before .before .before .pre in
     let t' = rw (tail2 .given .1) at (read-tail .ensures) in
-    (pre .0, t' .5)
+    t' .5
 
 enum-known-more : tie.Need-enum-known-more Inv-loop μ-loop
 enum-known-more c =
@@ -215,13 +214,13 @@ same-length-9 : tie.Need-same-length-9 Inv-loop μ-loop
 same-length-9 c =
     let read-tail = c .before .before .before .before .before .before .before .before .before .before .before .read-tail in
     let loop' = c .before .before .before .before .before .before .before .before .before .before .before .before .before .before .before .before .before .before .before .loop in
-    (read-tail .kept .1 .1 .1 .1 .1 .1 .1 .1 .1 .1 .0) ∙ (loop' .inv) .10
+    (read-tail .kept .1 .1 .1 .1 .1 .1 .1 .1 .1 .0) ∙ (loop' .inv) .10
 
 same-length-10 : tie.Need-same-length-10 Inv-loop μ-loop
 same-length-10 c =
     let read-tail = c .before .before .before .before .before .before .before .before .before .before .before .read-tail in
     let loop' = c .before .before .before .before .before .before .before .before .before .before .before .before .before .before .before .before .before .before .before .loop in
-    (read-tail .kept .1 .1 .1 .1 .1 .1 .1 .1 .1 .1 .1 .0) ∙ (loop' .inv) .11
+    (read-tail .kept .1 .1 .1 .1 .1 .1 .1 .1 .1 .1 .0) ∙ (loop' .inv) .11
 
 returns-5 : tie.Need-returns-5 Inv-loop μ-loop
 returns-5 c =
@@ -251,21 +250,20 @@ finish-requires c κs =
     let tail2 = c .before .before .before .before .before .tail2 in
     let more2 = c .before .more2 in
     let cell-more = c .before .before .before .cell-more in
-    let pre = c .before .before .before .before .before .before .before .before .before .before .before .before .before .before .before .before .before .before .before .before .before .before .before .pre in
     let w : MoreRead (now (args .text)) (tail2 .given .0 .0) (args .slash) (mr.Last (more2 .given .0 .0)) = rw (more2 .given .1) at (cell-more .ensures) in
-    (pre .0, w .1)
+    w .1
 
 same-length-11 : tie.Need-same-length-11 Inv-loop μ-loop
 same-length-11 c =
     let read-tail = c .before .before .before .before .before .before .before .before .before .before .before .before .read-tail in
     let loop' = c .before .before .before .before .before .before .before .before .before .before .before .before .before .before .before .before .before .before .before .before .loop in
-    (read-tail .kept .1 .1 .1 .1 .1 .1 .1 .1 .1 .1 .0) ∙ (loop' .inv) .10
+    (read-tail .kept .1 .1 .1 .1 .1 .1 .1 .1 .1 .0) ∙ (loop' .inv) .10
 
 same-length-12 : tie.Need-same-length-12 Inv-loop μ-loop
 same-length-12 c =
     let read-tail = c .before .before .before .before .before .before .before .before .before .before .before .before .read-tail in
     let loop' = c .before .before .before .before .before .before .before .before .before .before .before .before .before .before .before .before .before .before .before .before .loop in
-    (read-tail .kept .1 .1 .1 .1 .1 .1 .1 .1 .1 .1 .1 .0) ∙ (loop' .inv) .11
+    (read-tail .kept .1 .1 .1 .1 .1 .1 .1 .1 .1 .1 .0) ∙ (loop' .inv) .11
 
 returns-6 : tie.Need-returns-6 Inv-loop μ-loop
 returns-6 c =
@@ -284,10 +282,10 @@ returns-6 c =
     let a' : Along (now (args .text)) (args .lead) (args .slash) (args .unit) (args .cellroom) (args .entryroom) (hand.At (hand2 .given .0 .0) (hand2 .given .0 .1 .0) (hand2 .given .0 .1 .1 .0) (hand2 .given .0 .1 .1 .1 .0) (hand2 .given .0 .1 .1 .1 .1 .0) (hand2 .given .0 .1 .1 .1 .1 .1 .0)) (loop' .n) (loop' .m) ((loop' .inv) .0) ((loop' .inv) .1) = rw (hand2 .given .1) at ((loop' .inv) .7) in
     let t' = rw (tail2 .given .1) at (read-tail .ensures) in
     let w : MoreRead (now (args .text)) (tail2 .given .0 .0) (args .slash) (mr.Last (more2 .given .0 .0)) = rw (more2 .given .1) at (cell-more .ensures) in
-    finished-cells (now (args .text)) (args .lead) (args .slash) (args .unit) (args .cellroom) (args .entryroom) (loop' .n + 1) (loop' .m + (tail2 .given .0 .1 .0)) (((loop' .inv) .0) ++ t' .0 ∷ []) (((loop' .inv) .1) ++ t' .1) (args .fill) (now (args .cells)) (read-tail .last .1 .1 .1 .1 .1 .1 .1 .1 .1 .1 .0) (now (args .entries)) (read-tail .last .1 .1 .1 .1 .1 .1 .1 .1 .1 .1 .1 .0)
+    finished-cells (now (args .text)) (args .lead) (args .slash) (args .unit) (args .cellroom) (args .entryroom) (loop' .n + 1) (loop' .m + (tail2 .given .0 .1 .0)) (((loop' .inv) .0) ++ t' .0 ∷ []) (((loop' .inv) .1) ++ t' .1) (args .fill) (now (args .cells)) (read-tail .last .1 .1 .1 .1 .1 .1 .1 .1 .1 .0) (now (args .entries)) (read-tail .last .1 .1 .1 .1 .1 .1 .1 .1 .1 .1 .0)
     (more-cells (loop' .n) ((loop' .inv) .0) (t' .0) ((loop' .inv) .2)) (more-items (loop' .m) (tail2 .given .0 .1 .0) ((loop' .inv) .1) (t' .1) ((loop' .inv) .3) (t' .2))
-    (cells-then (args .fill) (now (args .cells)) (loop' .cells) (read-tail .last .1 .1 .1 .1 .1 .1 .1 .1 .1 .1 .0) (loop' .n) ((loop' .inv) .0) (t' .0) ((loop' .inv) .2) (omega (arith, (loop' .inv) .4, pre .2)) ((loop' .inv) .8) (t' .7))
-    (items-then (args .fill) (now (args .entries)) (loop' .entries) (read-tail .last .1 .1 .1 .1 .1 .1 .1 .1 .1 .1 .1 .0) (loop' .m) ((loop' .inv) .1) (t' .1) ((loop' .inv) .3) (omega (arith, (loop' .inv) .5, pre .3)) ((loop' .inv) .9) (t' .6))
+    (cells-then (args .fill) (now (args .cells)) (loop' .cells) (read-tail .last .1 .1 .1 .1 .1 .1 .1 .1 .1 .0) (loop' .n) ((loop' .inv) .0) (t' .0) ((loop' .inv) .2) (omega (arith, (loop' .inv) .4, pre .1)) ((loop' .inv) .8) (t' .7))
+    (items-then (args .fill) (now (args .entries)) (loop' .entries) (read-tail .last .1 .1 .1 .1 .1 .1 .1 .1 .1 .1 .0) (loop' .m) ((loop' .inv) .1) (t' .1) ((loop' .inv) .3) (omega (arith, (loop' .inv) .5, pre .2)) ((loop' .inv) .9) (t' .6))
     (more2 .given .0 .0)
     (λ q e. along-last (now (args .text)) (args .lead) (args .slash) (args .unit) (args .cellroom) (args .entryroom) (loop' .n) (loop' .m) ((loop' .inv) .0) ((loop' .inv) .1) (hand2 .given .0 .0) (hand2 .given .0 .1 .0) (hand2 .given .0 .1 .1 .0) (hand2 .given .0 .1 .1 .1 .0) (hand2 .given .0 .1 .1 .1 .1 .1 .0) (hand2 .given .0 .1 .1 .1 .1 .0) i' a' (if1 .left) (let x = if2 .left in omega (arith, x, (loop' .inv) .4)) (tail2 .given .0 .0) (t' .0) (t' .1) (t' .3) (more2 .given .0 .0) (tail2 .given .0 .1 .0) q (t' .2) w e)
     (λ j q e. along-after (now (args .text)) (args .lead) (args .slash) (args .unit) (args .cellroom) (args .entryroom) (loop' .n) (loop' .m) ((loop' .inv) .0) ((loop' .inv) .1) (hand2 .given .0 .0) (hand2 .given .0 .1 .0) (hand2 .given .0 .1 .1 .0) (hand2 .given .0 .1 .1 .1 .0) (hand2 .given .0 .1 .1 .1 .1 .1 .0) (hand2 .given .0 .1 .1 .1 .1 .0) i' a' (if1 .left) (let x = if2 .left in omega (arith, x, (loop' .inv) .4)) (tail2 .given .0 .0) (t' .0) (t' .1) (t' .3) (more2 .given .0 .0) j q w e)
@@ -322,9 +320,9 @@ loop-again c =
     let w : MoreRead (now (args .text)) (tail2 .given .0 .0) (args .slash) (mr.Next (more3 .given .0 .0)) = rw (more3 .given .1) at (cell-more .ensures) in
     (((loop' .inv) .0) ++ t' .0 ∷ [], ((loop' .inv) .1) ++ t' .1, more-cells (loop' .n) ((loop' .inv) .0) (t' .0) ((loop' .inv) .2), more-items (loop' .m) (tail2 .given .0 .1 .0) ((loop' .inv) .1) (t' .1) ((loop' .inv) .3) (t' .2), (let x = if2 .left in omega (arith, x, (loop' .inv) .4)), omega (arith, t' .4, (loop' .inv) .5), w .1,
     along-next (now (args .text)) (args .lead) (args .slash) (args .unit) (args .cellroom) (args .entryroom) (loop' .n) (loop' .m) ((loop' .inv) .0) ((loop' .inv) .1) (hand2 .given .0 .0) (hand2 .given .0 .1 .0) (hand2 .given .0 .1 .1 .0) (hand2 .given .0 .1 .1 .1 .0) (hand2 .given .0 .1 .1 .1 .1 .1 .0) (hand2 .given .0 .1 .1 .1 .1 .0) i' a' (if1 .left) (let x = if2 .left in omega (arith, x, (loop' .inv) .4)) (tail2 .given .0 .0) (t' .0) (t' .1) (t' .3) (more3 .given .0 .0) (tail2 .given .0 .1 .0) (t' .2) w,
-    cells-then (args .fill) (now (args .cells)) (loop' .cells) (read-tail .last .1 .1 .1 .1 .1 .1 .1 .1 .1 .1 .0) (loop' .n) ((loop' .inv) .0) (t' .0) ((loop' .inv) .2) (omega (arith, (loop' .inv) .4, pre .2)) ((loop' .inv) .8) (t' .7),
-    items-then (args .fill) (now (args .entries)) (loop' .entries) (read-tail .last .1 .1 .1 .1 .1 .1 .1 .1 .1 .1 .1 .0) (loop' .m) ((loop' .inv) .1) (t' .1) ((loop' .inv) .3) (omega (arith, (loop' .inv) .5, pre .3)) ((loop' .inv) .9) (t' .6),
-    (read-tail .kept .1 .1 .1 .1 .1 .1 .1 .1 .1 .1 .0) ∙ (loop' .inv) .10, (read-tail .kept .1 .1 .1 .1 .1 .1 .1 .1 .1 .1 .1 .0) ∙ (loop' .inv) .11)
+    cells-then (args .fill) (now (args .cells)) (loop' .cells) (read-tail .last .1 .1 .1 .1 .1 .1 .1 .1 .1 .0) (loop' .n) ((loop' .inv) .0) (t' .0) ((loop' .inv) .2) (omega (arith, (loop' .inv) .4, pre .1)) ((loop' .inv) .8) (t' .7),
+    items-then (args .fill) (now (args .entries)) (loop' .entries) (read-tail .last .1 .1 .1 .1 .1 .1 .1 .1 .1 .1 .0) (loop' .m) ((loop' .inv) .1) (t' .1) ((loop' .inv) .3) (omega (arith, (loop' .inv) .5, pre .2)) ((loop' .inv) .9) (t' .6),
+    (read-tail .kept .1 .1 .1 .1 .1 .1 .1 .1 .1 .0) ∙ (loop' .inv) .10, (read-tail .kept .1 .1 .1 .1 .1 .1 .1 .1 .1 .1 .0) ∙ (loop' .inv) .11)
 
 pub read-cells-spec : {M : Type 1} → statement M
 read-cells-spec =

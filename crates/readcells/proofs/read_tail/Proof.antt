@@ -13,7 +13,7 @@ use Rattle.readcells.proofs.read_tail.Tie as tie
 cell-head-requires : tie.Need-cell-head-requires
 cell-head-requires c κs =
     let pre = c .before .before .before .pre in
-    (pre .0, pre .1)
+    pre .0
 
 enum-known-head : tie.Need-enum-known-head
 enum-known-head c = search needs
@@ -28,7 +28,7 @@ read-body-requires c κs =
     let cell-head = c .before .before .before .before .cell-head in
     let pre = c .before .before .before .before .before .before .before .before .pre in
     let u : HeadRead (now (args .text)) (args .from) (args .slash) (ch.Head (head2 .given .0 .0) (head2 .given .0 .1 .0) (head2 .given .0 .1 .1 .0) (head2 .given .0 .1 .1 .1 .0) (head2 .given .0 .1 .1 .1 .1 .0) (head2 .given .0 .1 .1 .1 .1 .1 .0)) = rw (head2 .given .1) at (cell-head .ensures) in
-    (pre .0, u .1, pre .2)
+    (u .1, pre .1)
 
 enum-known-body : tie.Need-enum-known-body
 enum-known-body c = search needs
@@ -39,7 +39,7 @@ enum-known-body-2 c = search needs
 note-cell-requires : tie.Need-note-cell-requires
 note-cell-requires c κs =
     let pre = c .before .before .before .before .before .before .before .before .before .before .before .before .before .before .before .pre in
-    pre .3
+    pre .2
 
 returns : tie.Need-returns
 returns c =

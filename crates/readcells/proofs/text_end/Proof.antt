@@ -23,7 +23,7 @@ returns c =
     let pre = c .before .before .before .before .before .before .pre in
     let token-from = c .before .before .before .before .token-from in
     let if1 = c .if1 in
-    end-here (now (args .text)) (args .from) (t2 .given .0 .0) (t2 .given .0 .1 .0) (pre .1) (sym (token-from .ensures) ∙ t2 .given .1) (if1 .taken)
+    end-here (now (args .text)) (args .from) (t2 .given .0 .0) (t2 .given .0 .1 .0) pre (sym (token-from .ensures) ∙ t2 .given .1) (if1 .taken)
 
 returns-2 : tie.Need-returns-2
 returns-2 c =
@@ -31,7 +31,7 @@ returns-2 c =
     let t = c .before .t in
     let pre = c .before .before .before .before .before .pre in
     let token-from = c .before .before .before .token-from in
-    end-more (now (args .text)) (args .from) (t .given .0 .0) (t .given .0 .1 .0) (t .given .0 .1 .1 .0) (t .given .0 .1 .1 .1 .0) (pre .1) (sym (token-from .ensures) ∙ t .given .1)
+    end-more (now (args .text)) (args .from) (t .given .0 .0) (t .given .0 .1 .0) (t .given .0 .1 .1 .0) (t .given .0 .1 .1 .1 .0) pre (sym (token-from .ensures) ∙ t .given .1)
 
 returns-3 : tie.Need-returns-3
 returns-3 c =
@@ -40,7 +40,7 @@ returns-3 c =
     let pre = c .before .before .before .before .before .before .pre in
     let token-from = c .before .before .before .before .token-from in
     let if1 = c .if1 in
-    end-stops (now (args .text)) (args .from) (t2 .given .0 .0) (t2 .given .0 .1 .0) (pre .1) (sym (token-from .ensures) ∙ t2 .given .1) (if1 .left)
+    end-stops (now (args .text)) (args .from) (t2 .given .0 .0) (t2 .given .0 .1 .0) pre (sym (token-from .ensures) ∙ t2 .given .1) (if1 .left)
 
 pub text-end-spec : {M : Type 1} → statement M
 text-end-spec =

@@ -7,15 +7,13 @@ use Rattle.reader.proofs.read_all.Statement.{statement}
 use Rattle.reader.proofs.read_all.Tie as tie
 
 read-header-requires : tie.Need-read-header-requires
-read-header-requires c κs =
-    let pre = c .before .before .before .before .pre in
-    pre .0
+read-header-requires c κs = search needs
 
 read-cells-requires : tie.Need-read-cells-requires
 read-cells-requires c κs =
     let pre = c .before .before .before .before .before .before .before .pre in
     let read-header = c .before .before .read-header in
-    (pre .0, read-header .ensures .0 .1, pre .1, pre .2)
+    (read-header .ensures .0 .1, pre .0, pre .1)
 
 same-length : tie.Need-same-length
 same-length c = search needs

@@ -19,9 +19,6 @@ returns c =
     let refused = c .refused in
     file-refused _ 1 0 _ _ _ _ _ (too-long (length (now (args .cells)) / 7) (length (now (args .entries)) / 28) (now (args .text)) (if1 .taken)) refl refl (refused .ensures)
 
-class-table-requires : tie.Need-class-table-requires
-class-table-requires c κs = search needs
-
 read-all-requires : tie.Need-read-all-requires
 read-all-requires c κs = search needs
 
@@ -47,8 +44,8 @@ returns-2 : tie.Need-returns-2
 returns-2 c =
     let answer = c .before .before .answer in
     let read-all = c .before .before .before .before .before .before .before .before .read-all in
-    let args = c .before .before .before .before .before .before .before .before .before .before .before .before .before .before .before .before .before .before .args in
-    let if1 = c .before .before .before .before .before .before .before .before .before .before .before .before .before .before .if1 in
+    let args = c .before .before .before .before .before .before .before .before .before .before .before .before .before .before .before .before .args in
+    let if1 = c .before .before .before .before .before .before .before .before .before .before .before .before .if1 in
     let refused2 = c .refused2 in
     let a = rw (answer .given .1) at (read-all .ensures) in
     file-refused _ (answer .given .0 .0) (answer .given .0 .1 .0) _ _ _ _ _ (short-enough (length (now (args .cells)) / 7) (length (now (args .entries)) / 28) (now (args .text)) (if1 .left) ∙ a .0) (a .1 refl .0) (a .1 refl .1) (refused2 .ensures)
@@ -61,13 +58,13 @@ same-length-4 c = search needs
 
 returns-3 : tie.Need-returns-3
 returns-3 c =
-    let answer2 = c .before .before .before .before .before .before .before .before .before .before .answer2 in
-    let read-all = c .before .before .before .before .before .before .before .before .before .before .before .before .before .before .before .before .read-all in
-    let args = c .before .before .before .before .before .before .before .before .before .before .before .before .before .before .before .before .before .before .before .before .before .before .before .before .before .before .args in
+    let answer2 = c .before .before .before .before .before .before .before .before .before .answer2 in
+    let read-all = c .before .before .before .before .before .before .before .before .before .before .before .before .before .before .before .read-all in
+    let args = c .before .before .before .before .before .before .before .before .before .before .before .before .before .before .before .before .before .before .before .before .before .before .before .args in
     let read-all2 = c .before .before .before .before .read-all2 in
-    let if1 = c .before .before .before .before .before .before .before .before .before .before .before .before .before .before .before .before .before .before .before .before .before .before .if1 in
+    let if1 = c .before .before .before .before .before .before .before .before .before .before .before .before .before .before .before .before .before .before .before .if1 in
     let a = rw (answer2 .given .1) at (read-all .ensures) in
-    file-read _ _ (length (now (args .cells)) / 7) (length (now (args .entries)) / 28) (answer2 .given .0 .0) (answer2 .given .0 .1 .0) _ _ _ _ _ _ _ (read-all2 .last .1 .1 .1 .1 .1 .1 .1 .0) _ (read-all2 .result .slash) _ (read-all2 .result .unit) (read-all2 .result .answer) _ (short-enough (length (now (args .cells)) / 7) (length (now (args .entries)) / 28) (now (args .text)) (if1 .left)) a (read-all2 .ensures) (refl, refl, refl, refl)
+    file-read _ _ (length (now (args .cells)) / 7) (length (now (args .entries)) / 28) (answer2 .given .0 .0) (answer2 .given .0 .1 .0) _ _ _ _ _ _ _ (read-all2 .last .1 .1 .1 .1 .1 .1 .0) _ (read-all2 .result .slash) _ (read-all2 .result .unit) (read-all2 .result .answer) _ (short-enough (length (now (args .cells)) / 7) (length (now (args .entries)) / 28) (now (args .text)) (if1 .left)) a (read-all2 .ensures) (refl, refl, refl, refl)
 
 pub read-file-spec : {M : Type 1} → statement M
 read-file-spec =
@@ -75,7 +72,6 @@ read-file-spec =
     (tie.spec
     refused-requires
     returns
-    class-table-requires
     read-all-requires
     enum-known-answer
     refused-requires-2

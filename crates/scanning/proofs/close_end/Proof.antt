@@ -11,27 +11,24 @@ use Rattle.scanning.proofs.close_end.Statement.{statement}
 use Rattle.scanning.proofs.close_end.Tie as tie
 
 abbrev Inv-loop : tie.InvT-loop
-Inv-loop s t at q0 i₀ q₀ i q = (i ≤ length s) × (at ≤ i) × (i + scanLen closeHalts textGoes q (drop i s) ≡ at + scanLen closeHalts textGoes q0 (drop at s))
+Inv-loop s at q0 i₀ q₀ i q = (i ≤ length s) × (at ≤ i) × (i + scanLen closeHalts textGoes q (drop i s) ≡ at + scanLen closeHalts textGoes q0 (drop at s))
 
 abbrev μ-loop : tie.MeasureT-loop
-μ-loop s t at q0 i₀ q₀ i q = length s - i
+μ-loop s at q0 i₀ q₀ i q = length s - i
 
 loop-holds : tie.Need-loop-holds Inv-loop μ-loop
 loop-holds c = search needs
 
-shared-slice-read-class-of : tie.Need-shared-slice-read-class-of Inv-loop μ-loop
-shared-slice-read-class-of c = search needs
-
-class-of-requires : tie.Need-class-of-requires Inv-loop μ-loop
-class-of-requires c κs = search needs
+shared-slice-read-byte : tie.Need-shared-slice-read-byte Inv-loop μ-loop
+shared-slice-read-byte c = search needs
 
 close-stop-requires : tie.Need-close-stop-requires Inv-loop μ-loop
 close-stop-requires c κs = search needs
 
 returns : tie.Need-returns Inv-loop μ-loop
 returns c =
-    let l = c .before .before .before .before .before .loop in
-    let s = now (c .before .before .before .before .before .before .before .args .text) in
+    let l = c .before .before .before .before .loop in
+    let s = now (c .before .before .before .before .before .before .args .text) in
     (sym (stops closeHalts textGoes s (l .state) (l .i) (search needs) (cc)) ∙ l .inv .2, search needs)
 
 text-next-requires : tie.Need-text-next-requires Inv-loop μ-loop
@@ -45,8 +42,8 @@ loop-less c = search needs
 
 loop-again : tie.Need-loop-again Inv-loop μ-loop
 loop-again c =
-    let l = c .before .before .before .before .before .before .loop in
-    let s = now (c .before .before .before .before .before .before .before .before .args .text) in
+    let l = c .before .before .before .before .before .loop in
+    let s = now (c .before .before .before .before .before .before .before .args .text) in
     (search needs, search needs, cc (goes-on closeHalts textGoes s (l .state) (l .i) (search needs) (cc)))
 
 returns-2 : tie.Need-returns-2 Inv-loop μ-loop
@@ -62,8 +59,7 @@ close-end-spec =
     Inv-loop
     μ-loop
     loop-holds
-    shared-slice-read-class-of
-    class-of-requires
+    shared-slice-read-byte
     close-stop-requires
     returns
     text-next-requires

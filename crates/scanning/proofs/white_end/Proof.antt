@@ -1,34 +1,39 @@
 -- `scanning::white_end` meets its contract.
 -- Assumes nothing.
-use Prim.Native.Nat.{_≤_, _+_, _-_}
+use Prim.Native.Nat.{_≤_, _<_, _+_, _-_}
+use native.Mathlib.Omega.{arith}
 use mathlib.Core.Path.{_≡_, sym, _∙_, ap}
 use denote.Ref.{now}
 use lib.ListN.{length, drop, getD}
 use borrow.Author.Needs.{needs}
+use borrow.Author.Tests.{eqb-true, eqb-false, not-true, not-false}
 use Rattle.classes.specs.Classes.{classOf}
 use Rattle.scanning.specs.declared.Blank.{Blank}
 use Rattle.scanning.specs.Scan.{scanLen, scanSt, goes-on, goes-onSt}
-use Rattle.scanning.specs.Machines.{blankHalts, blankGoes, outside, white-on, white-same}
+use Rattle.scanning.specs.Machines.{blankHalts, blankGoes, outside, white-on, white-same, blankEnd, blankAt}
 use Rattle.scanning.proofs.white_end.Statement.{statement}
 use Rattle.scanning.proofs.white_end.Tie as tie
 
 abbrev Inv-loop : tie.InvT-loop
-Inv-loop s t at i₀ i = (i ≤ length s) × (i + scanLen blankHalts blankGoes outside (drop i s) ≡ at + scanLen blankHalts blankGoes outside (drop at s)) × (scanSt blankHalts blankGoes outside (drop i s) ≡ scanSt blankHalts blankGoes outside (drop at s))
+Inv-loop s p i₀ i = (p ≤ i) × (i ≤ length s) × (blankEnd s i ≡ blankEnd s p) × (blankAt s i ≡ blankAt s p)
 
 abbrev μ-loop : tie.MeasureT-loop
-μ-loop s t at i₀ i = length s - i
+μ-loop s p i₀ i = length s - i
 
 loop-holds : tie.Need-loop-holds Inv-loop μ-loop
 loop-holds c = search needs
 
-shared-slice-read-class-of : tie.Need-shared-slice-read-class-of Inv-loop μ-loop
-shared-slice-read-class-of c = search needs
+shared-slice-read-is-white : tie.Need-shared-slice-read-is-white Inv-loop μ-loop
+shared-slice-read-is-white c = search needs
 
-class-of-requires : tie.Need-class-of-requires Inv-loop μ-loop
-class-of-requires c κs = search needs
+is-white-requires : tie.Need-is-white-requires Inv-loop μ-loop
+is-white-requires c κs = search needs
 
 returns : tie.Need-returns Inv-loop μ-loop
-returns c = search needs
+returns c =
+    let l = c .before .before .before .before .loop in
+    let f = sym (c .before .is-white .ensures) ∙ not-true _ (c .if1 .taken) in
+    record { on = l .inv .0; fits = l .inv .1; ends = l .inv .2; state = l .inv .3; stop = λ h. eqb-false _ 1 f }
 
 add-i : tie.Need-add-i Inv-loop μ-loop
 add-i c = search needs
@@ -40,16 +45,19 @@ loop-again : tie.Need-loop-again Inv-loop μ-loop
 loop-again c =
     let l = c .before .before .before .before .loop in
     let s = now (c .before .before .before .before .before .before .args .text) in
-    let k : classOf (getD s (l .i) 0) ≡ 1 = cc in
+    let k = eqb-true (classOf (getD s (l .i) 0)) 1 (sym (c .before .is-white .ensures) ∙ not-false _ (c .if1 .left)) in
     let n = sym (white-same (getD s (l .i) 0) (getD s (l .i + 1) 0) k) in
     let h = white-on (getD s (l .i) 0) (getD s (l .i + 1) 0) k in (
       search needs,
-      ap (λ (q : Blank). l .i + 1 + scanLen blankHalts blankGoes q (drop (l .i + 1) s)) n ∙ goes-on blankHalts blankGoes s outside (l .i) (search needs) h ∙ l .inv .1,
-      ap (λ (q : Blank). scanSt blankHalts blankGoes q (drop (l .i + 1) s)) n ∙ goes-onSt blankHalts blankGoes s outside (l .i) (search needs) h ∙ l .inv .2,
+      search needs,
+      ap (λ (q : Blank). l .i + 1 + scanLen blankHalts blankGoes q (drop (l .i + 1) s)) n ∙ goes-on blankHalts blankGoes s outside (l .i) (search needs) h ∙ l .inv .2,
+      ap (λ (q : Blank). scanSt blankHalts blankGoes q (drop (l .i + 1) s)) n ∙ goes-onSt blankHalts blankGoes s outside (l .i) (search needs) h ∙ l .inv .3,
     )
 
 returns-2 : tie.Need-returns-2 Inv-loop μ-loop
-returns-2 c = search needs
+returns-2 c =
+    let l = c .before .loop in
+    record { on = l .inv .0; fits = l .inv .1; ends = l .inv .2; state = l .inv .3; stop = λ h. absurd (omega arith) }
 
 pub white-end-spec : {M : Type 1} → statement M
 white-end-spec =
@@ -58,8 +66,8 @@ white-end-spec =
     Inv-loop
     μ-loop
     loop-holds
-    shared-slice-read-class-of
-    class-of-requires
+    shared-slice-read-is-white
+    is-white-requires
     returns
     add-i
     loop-less

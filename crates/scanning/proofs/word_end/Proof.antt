@@ -1,32 +1,40 @@
 -- `scanning::word_end` meets its contract.
 -- Assumes nothing.
 use Prim.Native.Nat.{_≤_, _<_, _+_, _-_}
-use mathlib.Core.Path.{_≡_, sym, _∙_}
+use native.Mathlib.Omega.{arith}
+use mathlib.Core.Path.{_≡_, sym, _∙_, ap}
+use mathlib.Core.Bool.{true, false}
 use denote.Ref.{now}
-use lib.ListN.{length, drop}
+use lib.ListN.{length, getD}
 use borrow.Author.Needs.{needs}
-use Rattle.scanning.specs.Scan.{scanLen, stops, goes-on, ends}
+use Rattle.scanning.specs.Scan.{stops, ends}
 use Rattle.scanning.specs.Machines.{wordHalts, wordGoes, wordEnd}
+use Rattle.scanning.specs.Runs.{wordFrom, bracketed, widthOf}
+use Rattle.scanning.specs.RunLaws.{word-goes, width-some}
 use Rattle.scanning.proofs.word_end.Statement.{statement}
 use Rattle.scanning.proofs.word_end.Tie as tie
 
 abbrev Inv-loop : tie.InvT-loop
-Inv-loop s t at i₀ q₀ i q = (i ≤ length s) × (q < 4) × (i + scanLen wordHalts wordGoes q (drop i s) ≡ wordEnd s at)
+Inv-loop s p i₀ q₀ i q = (p ≤ i) × (i ≤ length s) × (q < 2) × (wordFrom q s i ≡ wordEnd s p)
 
 abbrev μ-loop : tie.MeasureT-loop
-μ-loop s t at i₀ q₀ i q = length s - i
-
-plain-end-requires : tie.Need-plain-end-requires Inv-loop μ-loop
-plain-end-requires c κs = search needs
+μ-loop s p i₀ q₀ i q = length s - i
 
 loop-holds : tie.Need-loop-holds Inv-loop μ-loop
 loop-holds c = search needs
 
-shared-slice-read-class-of : tie.Need-shared-slice-read-class-of Inv-loop μ-loop
-shared-slice-read-class-of c = search needs
+plain-end-requires : tie.Need-plain-end-requires Inv-loop μ-loop
+plain-end-requires c κs = search needs
 
-class-of-requires : tie.Need-class-of-requires Inv-loop μ-loop
-class-of-requires c κs = search needs
+returns : tie.Need-returns Inv-loop μ-loop
+returns c =
+    let s = now (c .before .before .before .before .args .text) in
+    let l = c .before .before .loop in
+    let p = c .before .plain-end .ensures in
+    (sym (ends wordHalts wordGoes s (l .state) (c .before .plain-end .result) (search needs)) ∙ p .same (l .state) (l .inv .2) ∙ l .inv .3, p .fits, search needs)
+
+shared-slice-read-byte : tie.Need-shared-slice-read-byte Inv-loop μ-loop
+shared-slice-read-byte c = search needs
 
 add-peek : tie.Need-add-peek Inv-loop μ-loop
 add-peek c = search needs
@@ -35,34 +43,52 @@ peek-requires : tie.Need-peek-requires Inv-loop μ-loop
 peek-requires c κs = search needs
 
 word-stop-requires : tie.Need-word-stop-requires Inv-loop μ-loop
-word-stop-requires c κs = search needs
-
-returns : tie.Need-returns Inv-loop μ-loop
-returns c =
-    let l = c .before .before .before .before .before .before .loop in
-    let s = now (c .before .before .before .before .before .before .before .before .before .args .text) in
-    (sym (stops wordHalts wordGoes s (l .state) (l .i) (search needs) (cc)) ∙ l .inv .2, search needs)
-
-word-next-requires : tie.Need-word-next-requires Inv-loop μ-loop
-word-next-requires c κs = search needs
-
-add-i : tie.Need-add-i Inv-loop μ-loop
-add-i c = search needs
-
-loop-less : tie.Need-loop-less Inv-loop μ-loop
-loop-less c = search needs
-
-loop-again : tie.Need-loop-again Inv-loop μ-loop
-loop-again c =
-    let l = c .before .before .before .before .before .before .before .loop in
-    let s = now (c .before .before .before .before .before .before .before .before .before .before .args .text) in
-    (search needs, search needs, cc (goes-on wordHalts wordGoes s (l .state) (l .i) (search needs) (cc)))
+word-stop-requires c κs = (c .before .before .before .before .loop .inv .2, c .before .before .before .plain-end .ensures .stop (search needs))
 
 returns-2 : tie.Need-returns-2 Inv-loop μ-loop
 returns-2 c =
-    let l = c .before .loop in
-    let s = now (c .before .before .before .before .args .text) in
-    (sym (ends wordHalts wordGoes s (l .state) (l .i) (search needs)) ∙ l .inv .2, search needs)
+    let s = now (c .before .before .before .before .before .before .before .before .args .text) in
+    let l = c .before .before .before .before .before .before .loop in
+    let i = c .before .before .before .before .before .plain-end .result in
+    let p = c .before .before .before .before .before .plain-end .ensures in
+    let halts : wordHalts (l .state) (getD s i 0) (getD s (i + 1) 0) ≡ true = cc in
+    (sym (stops wordHalts wordGoes s (l .state) i (search needs) halts) ∙ p .same (l .state) (l .inv .2) ∙ l .inv .3, p .fits, search needs)
+
+word-next-requires : tie.Need-word-next-requires Inv-loop μ-loop
+word-next-requires c κs = c .before .before .before .before .before .before .loop .inv .2
+
+word-step-requires : tie.Need-word-step-requires Inv-loop μ-loop
+word-step-requires c κs = search needs
+
+add-i : tie.Need-add-i Inv-loop μ-loop
+add-i c =
+    let s = now (c .before .before .before .before .before .before .before .before .before .before .args .text) in
+    let l = c .before .before .before .before .before .before .before .before .loop in
+    let i = c .before .before .before .before .before .before .before .plain-end .result in
+    let halts : wordHalts (l .state) (getD s i 0) (getD s (i + 1) 0) ≡ false = cc in
+    let g = word-goes s (l .state) i (l .inv .2) (search needs) halts in
+    search needs
+
+loop-less : tie.Need-loop-less Inv-loop μ-loop
+loop-less c =
+    let s = now (c .before .before .before .before .before .before .before .before .before .before .args .text) in
+    let l = c .before .before .before .before .before .before .before .before .loop in
+    let i = c .before .before .before .before .before .before .before .plain-end .result in
+    let halts : wordHalts (l .state) (getD s i 0) (getD s (i + 1) 0) ≡ false = cc in
+    let g = word-goes s (l .state) i (l .inv .2) (search needs) halts in
+    omega (arith, g .1, width-some (getD s i 0), c .word-step .ensures, c .before .before .before .before .before .before .before .plain-end .ensures .on)
+
+loop-again : tie.Need-loop-again Inv-loop μ-loop
+loop-again c =
+    let s = now (c .before .before .before .before .before .before .before .before .before .before .args .text) in
+    let l = c .before .before .before .before .before .before .before .before .loop in
+    let i = c .before .before .before .before .before .before .before .plain-end .result in
+    let halts : wordHalts (l .state) (getD s i 0) (getD s (i + 1) 0) ≡ false = cc in
+    let g = word-goes s (l .state) i (l .inv .2) (search needs) halts in
+    let p = c .before .before .before .before .before .before .before .plain-end .ensures in
+    let n = c .before .word-next .ensures in
+    let w = c .word-step .ensures in
+    (omega arith, omega arith, n .1, rw (n .0, w) (g .0 ∙ p .same (l .state) (l .inv .2) ∙ l .inv .3))
 
 pub word-end-spec : {M : Type 1} → statement M
 word-end-spec =
@@ -70,16 +96,16 @@ word-end-spec =
     (tie.spec
     Inv-loop
     μ-loop
-    plain-end-requires
     loop-holds
-    shared-slice-read-class-of
-    class-of-requires
+    plain-end-requires
+    returns
+    shared-slice-read-byte
     add-peek
     peek-requires
     word-stop-requires
-    returns
+    returns-2
     word-next-requires
+    word-step-requires
     add-i
     loop-less
-    loop-again
-    returns-2)
+    loop-again)

@@ -1,33 +1,20 @@
 -- `scanning::word_next` meets its contract.
 -- Assumes nothing.
-use borrow.Author.Needs.{needs}
-use borrow.Author.Tests.{le-leb, lt-leb, eq-eqb, ne-eqb}
-use Rattle.scanning.specs.Machines.{wordNext}
+use native.Mathlib.Omega.{arith}
+use borrow.Author.Tests.{ne-eqb}
 use Rattle.scanning.proofs.word_next.Statement.{statement}
 use Rattle.scanning.proofs.word_next.Tie as tie
 
 returns : tie.Need-returns
-unfolding wordNext
-returns c = (simp (le-leb _ _ (c .if1 .taken)), search needs)
+returns c = (rw (c .match .keys1), omega arith)
 
 returns-2 : tie.Need-returns-2
-unfolding wordNext
-returns-2 c = (simp (eq-eqb _ _ (c .if2 .taken), lt-leb _ _ (c .before .if1 .left)), search needs)
+returns-2 c = (rw (c .match .keys2), omega arith)
 
 returns-3 : tie.Need-returns-3
-unfolding wordNext
-returns-3 c = (simp (eq-eqb _ _ (c .if3 .taken), ne-eqb _ _ (c .before .if2 .left), lt-leb _ _ (c .before .before .if1 .left)), search needs)
-
-add-result : tie.Need-add-result
-add-result c = search needs
-
-returns-4 : tie.Need-returns-4
-unfolding wordNext
-returns-4 c = (simp (eq-eqb _ _ (c .if4 .taken), ne-eqb _ _ (c .before .if3 .left), ne-eqb _ _ (c .before .before .if2 .left), lt-leb _ _ (c .before .before .before .if1 .left)), search needs)
-
-returns-5 : tie.Need-returns-5
-unfolding wordNext
-returns-5 c = (simp (ne-eqb _ _ (c .if4 .left), ne-eqb _ _ (c .before .if3 .left), ne-eqb _ _ (c .before .before .if2 .left), lt-leb _ _ (c .before .before .before .if1 .left)), search needs)
+returns-3 c =
+    let b = c .before .args .byte in
+    (rw (ne-eqb b 91 (c .match .rest .0 .1), ne-eqb b 93 (c .match .rest .1)), c .before .pre)
 
 pub word-next-spec : {M : Type 1} → statement M
-word-next-spec = tie.close (tie.spec returns returns-2 returns-3 add-result returns-4 returns-5)
+word-next-spec = tie.close (tie.spec returns returns-2 returns-3)

@@ -42,8 +42,8 @@ returns-2 c =
     let f : closing s (i + 1) ≡ c .before .before .close-end .result = cc (closing-on s (i + 1)) in
     rw (f, e, lt-leb _ _ (c .before .if1 .left), lt-ltb _ _ (c .if2 .taken))
 
-add-t11 : tie.Need-add-t11
-add-t11 c = search needs
+add-t10 : tie.Need-add-t10
+add-t10 c = search needs
 
 returns-3 : tie.Need-returns-3
 unfolding stringOf
@@ -65,5 +65,5 @@ string-at-spec =
     add-long
     sub-long
     returns-2
-    add-t11
+    add-t10
     returns-3)

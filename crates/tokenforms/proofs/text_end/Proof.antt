@@ -13,27 +13,24 @@ use Rattle.tokenforms.proofs.text_end.Statement.{statement}
 use Rattle.tokenforms.proofs.text_end.Tie as tie
 
 abbrev Inv-loop : tie.InvT-loop
-Inv-loop s t at i₀ q₀ i q = (i ≤ length s) × (at ≤ i) × (i + scanLen textHalts textGoes q (drop i s) ≡ spoilt s at) × (scanSt textHalts textGoes q (drop i s) ≡ scanSt textHalts textGoes 0 (drop at s))
+Inv-loop s at i₀ q₀ i q = (i ≤ length s) × (at ≤ i) × (i + scanLen textHalts textGoes q (drop i s) ≡ spoilt s at) × (scanSt textHalts textGoes q (drop i s) ≡ scanSt textHalts textGoes 0 (drop at s))
 
 abbrev μ-loop : tie.MeasureT-loop
-μ-loop s t at i₀ q₀ i q = length s - i
+μ-loop s at i₀ q₀ i q = length s - i
 
 loop-holds : tie.Need-loop-holds Inv-loop μ-loop
 loop-holds c = search needs
 
-shared-slice-read-class-of : tie.Need-shared-slice-read-class-of Inv-loop μ-loop
-shared-slice-read-class-of c = search needs
-
-class-of-requires : tie.Need-class-of-requires Inv-loop μ-loop
-class-of-requires c κs = search needs
+shared-slice-read-byte : tie.Need-shared-slice-read-byte Inv-loop μ-loop
+shared-slice-read-byte c = search needs
 
 text-stop-requires : tie.Need-text-stop-requires Inv-loop μ-loop
 text-stop-requires c κs = search needs
 
 returns : tie.Need-returns Inv-loop μ-loop
 returns c =
-    let l = c .before .before .before .before .before .loop in
-    let s = now (c .before .before .before .before .before .before .before .args .text) in
+    let l = c .before .before .before .before .loop in
+    let s = now (c .before .before .before .before .before .before .args .text) in
     let h : textHalts (l .state) (getD s (l .i) 0) (getD s (l .i + 1) 0) ≡ true = cc in
     (sym (stops textHalts textGoes s (l .state) (l .i) (search needs) h) ∙ l .inv .2, sym (stopsSt textHalts textGoes s (l .state) (l .i) (search needs) h) ∙ l .inv .3, search needs, search needs)
 
@@ -48,8 +45,8 @@ loop-less c = search needs
 
 loop-again : tie.Need-loop-again Inv-loop μ-loop
 loop-again c =
-    let l = c .before .before .before .before .before .before .loop in
-    let s = now (c .before .before .before .before .before .before .before .before .args .text) in
+    let l = c .before .before .before .before .before .loop in
+    let s = now (c .before .before .before .before .before .before .before .args .text) in
     let h : textHalts (l .state) (getD s (l .i) 0) (getD s (l .i + 1) 0) ≡ false = cc in
     (search needs, search needs, cc (goes-on textHalts textGoes s (l .state) (l .i) (search needs) h), cc (goes-onSt textHalts textGoes s (l .state) (l .i) (search needs) h))
 
@@ -66,8 +63,7 @@ text-end-spec =
     Inv-loop
     μ-loop
     loop-holds
-    shared-slice-read-class-of
-    class-of-requires
+    shared-slice-read-byte
     text-stop-requires
     returns
     text-next-requires

@@ -1,75 +1,55 @@
 -- `tokenforms::token_here` meets its contract.
 -- Assumes nothing.
-use borrow.Author.Tests.{le-leb, lt-leb, eq-eqb, ne-eqb}
-use Rattle.tokenforms.specs.Tokens.{tokenOf}
+use mathlib.Core.Path.{sym, _∙_}
 use borrow.Author.Needs.{needs}
+use borrow.Author.Tests.{le-leb}
+use Rattle.tokenforms.specs.Tokens.{tokenOf}
+use Rattle.tokenforms.specs.HereLaws.{mark-here, word-here}
 use Rattle.tokenforms.proofs.token_here.Statement.{statement}
 use Rattle.tokenforms.proofs.token_here.Tie as tie
 
 returns : tie.Need-returns
 unfolding tokenOf
-returns c = simp (le-leb _ _ (c .if1 .taken))
+returns c = rw (le-leb _ _ (c .if1 .taken))
 
-shared-slice-read-class-of : tie.Need-shared-slice-read-class-of
-shared-slice-read-class-of c = search needs
+shared-slice-read-mark-of : tie.Need-shared-slice-read-mark-of
+shared-slice-read-mark-of c = search needs
 
-class-of-requires : tie.Need-class-of-requires
-class-of-requires c κs = search needs
+mark-of-requires : tie.Need-mark-of-requires
+mark-of-requires c κs = search needs
+
+single-requires : tie.Need-single-requires
+single-requires c κs = search needs
 
 returns-2 : tie.Need-returns-2
-unfolding tokenOf
-returns-2 c = simp (eq-eqb _ _ (c .if2 .taken), ← c .before .class-of .ensures, lt-leb _ _ (c .before .before .before .if1 .left))
-
-add-t10 : tie.Need-add-t10
-add-t10 c = search needs
-
-returns-3 : tie.Need-returns-3
-unfolding tokenOf
-returns-3 c = simp (le-leb _ _ (c .if3 .taken), ne-eqb _ _ (c .before .if2 .left), ← c .before .before .class-of .ensures, lt-leb _ _ (c .before .before .before .before .if1 .left))
-
-string-at-requires : tie.Need-string-at-requires
-string-at-requires c κs = search needs
-
-returns-4 : tie.Need-returns-4
-unfolding tokenOf
-returns-4 c = simp (eq-eqb _ _ (c .before .if4 .taken), lt-leb _ _ (c .before .before .if3 .left), ne-eqb _ _ (c .before .before .before .if2 .left), ← c .before .before .before .before .class-of .ensures, lt-leb _ _ (c .before .before .before .before .before .before .if1 .left)) (c .string-at .ensures)
-
-add-t11 : tie.Need-add-t11
-add-t11 c = search needs
-
-returns-5 : tie.Need-returns-5
-unfolding tokenOf
-returns-5 c = simp (eq-eqb _ _ (c .if5 .taken), ne-eqb _ _ (c .before .if4 .left), lt-leb _ _ (c .before .before .if3 .left), ne-eqb _ _ (c .before .before .before .if2 .left), ← c .before .before .before .before .class-of .ensures, lt-leb _ _ (c .before .before .before .before .before .before .if1 .left))
+returns-2 c = c .single .ensures ∙ sym (mark-here _ _ _ (search needs) (sym (c .before .before .mark-of .ensures)) (c .before .if2 .taken))
 
 word-end-requires : tie.Need-word-end-requires
 word-end-requires c κs = search needs
 
-returns-6 : tie.Need-returns-6
-unfolding tokenOf
-returns-6 c = simp (le-leb _ _ (c .if6 .taken), ← c .before .word-end .ensures .0, ne-eqb _ _ (c .before .before .if5 .left), ne-eqb _ _ (c .before .before .before .if4 .left), lt-leb _ _ (c .before .before .before .before .if3 .left), ne-eqb _ _ (c .before .before .before .before .before .if2 .left), ← c .before .before .before .before .before .before .class-of .ensures, lt-leb _ _ (c .before .before .before .before .before .before .before .before .if1 .left))
+sub-t9 : tie.Need-sub-t9
+sub-t9 c = search needs
 
-sub-t6 : tie.Need-sub-t6
-sub-t6 c = search needs
+returns-3 : tie.Need-returns-3
+returns-3 c = sym (word-here _ _ _ (search needs) (sym (c .before .word-end .ensures .0)) (c .if3 .taken))
 
-returns-7 : tie.Need-returns-7
-unfolding tokenOf
-returns-7 c = simp (lt-leb _ _ (c .if6 .left), ← c .before .word-end .ensures .0, ne-eqb _ _ (c .before .before .if5 .left), ne-eqb _ _ (c .before .before .before .if4 .left), lt-leb _ _ (c .before .before .before .before .if3 .left), ne-eqb _ _ (c .before .before .before .before .before .if2 .left), ← c .before .before .before .before .before .before .class-of .ensures, lt-leb _ _ (c .before .before .before .before .before .before .before .before .if1 .left))
+other-here-requires : tie.Need-other-here-requires
+other-here-requires c κs = search needs
+
+returns-4 : tie.Need-returns-4
+returns-4 c = search needs
 
 pub token-here-spec : {M : Type 1} → statement M
 token-here-spec =
     tie.close
     (tie.spec
     returns
-    shared-slice-read-class-of
-    class-of-requires
+    shared-slice-read-mark-of
+    mark-of-requires
+    single-requires
     returns-2
-    add-t10
-    returns-3
-    string-at-requires
-    returns-4
-    add-t11
-    returns-5
     word-end-requires
-    returns-6
-    sub-t6
-    returns-7)
+    sub-t9
+    returns-3
+    other-here-requires
+    returns-4)

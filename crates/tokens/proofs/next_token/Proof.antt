@@ -9,9 +9,6 @@ use Rattle.tokens.proofs.next_token.Tie as tie
 returns : tie.Need-returns
 returns c = sym (token-beyond _ _ (search needs))
 
-class-table-requires : tie.Need-class-table-requires
-class-table-requires c κs = search needs
-
 token-from-requires : tie.Need-token-from-requires
 token-from-requires c κs = search needs
 
@@ -19,4 +16,4 @@ returns-2 : tie.Need-returns-2
 returns-2 c = search needs
 
 pub next-token-spec : {M : Type 1} → statement M
-next-token-spec = tie.close (tie.spec returns class-table-requires token-from-requires returns-2)
+next-token-spec = tie.close (tie.spec returns token-from-requires returns-2)

@@ -13,8 +13,8 @@ use Rattle.values.proofs.expect.Tie as tie
 mark-from-requires : tie.Need-mark-from-requires
 mark-from-requires c κs = search needs
 
-add-t15 : tie.Need-add-t15
-add-t15 c = search needs
+add-t14 : tie.Need-add-t14
+add-t14 c = search needs
 
 returns : tie.Need-returns
 returns c =
@@ -24,7 +24,7 @@ returns c =
     let args = c .before .before .before .before .before .args in
     let pre = c .before .before .before .before .before .pre in
     let g = mark-from .ensures .2 (omega (arith, if1 .taken, if2 .taken)) in
-    mark-got (now (args .text)) (args .from) (mark-from .result .kind) (mark-from .result .place) ((mark-from .result .place) + 1) false (pre .1) (g .0) (args .mark) (if1 .taken)
+    mark-got (now (args .text)) (args .from) (mark-from .result .kind) (mark-from .result .place) ((mark-from .result .place) + 1) false pre (g .0) (args .mark) (if1 .taken)
 
 token-from-requires : tie.Need-token-from-requires
 token-from-requires c κs = search needs
@@ -43,7 +43,7 @@ returns-2 c =
     let mark-from = c .before .before .before .before .before .before .before .mark-from in
     let token-from = c .before .before .before .before .token-from in
     let if3 = c .if3 in
-    mark-got (now (args .text)) (args .from) ((t2 .given) .0 .0) ((t2 .given) .0 .1 .0) ((t2 .given) .0 .1 .1 .0) ((t2 .given) .0 .1 .1 .1 .0) (pre .1) (sym (mark-from .ensures .0) ∙ sym (token-from .ensures) ∙ (t2 .given) .1) (args .mark) (if3 .taken)
+    mark-got (now (args .text)) (args .from) ((t2 .given) .0 .0) ((t2 .given) .0 .1 .0) ((t2 .given) .0 .1 .1 .0) ((t2 .given) .0 .1 .1 .1 .0) pre (sym (mark-from .ensures .0) ∙ sym (token-from .ensures) ∙ (t2 .given) .1) (args .mark) (if3 .taken)
 
 returns-3 : tie.Need-returns-3
 returns-3 c =
@@ -52,7 +52,7 @@ returns-3 c =
     let pre = c .before .before .before .before .before .before .before .before .pre in
     let mark-from = c .before .before .before .before .before .before .mark-from in
     let token-from = c .before .before .before .token-from in
-    mark-stops (now (args .text)) (args .from) (args .mark) (t .given .0 .0) (t .given .0 .1 .0) (pre .1) (sym (mark-from .ensures .0) ∙ sym (token-from .ensures) ∙ t .given .1)
+    mark-stops (now (args .text)) (args .from) (args .mark) (t .given .0 .0) (t .given .0 .1 .0) pre (sym (mark-from .ensures .0) ∙ sym (token-from .ensures) ∙ t .given .1)
 
 returns-4 : tie.Need-returns-4
 returns-4 c =
@@ -62,14 +62,14 @@ returns-4 c =
     let mark-from = c .before .before .before .before .before .before .before .mark-from in
     let token-from = c .before .before .before .before .token-from in
     let if3 = c .if3 in
-    mark-not (now (args .text)) (args .from) ((t2 .given) .0 .0) ((t2 .given) .0 .1 .0) ((t2 .given) .0 .1 .1 .0) ((t2 .given) .0 .1 .1 .1 .0) (pre .1) (sym (mark-from .ensures .0) ∙ sym (token-from .ensures) ∙ (t2 .given) .1) (args .mark) (if3 .left)
+    mark-not (now (args .text)) (args .from) ((t2 .given) .0 .0) ((t2 .given) .0 .1 .0) ((t2 .given) .0 .1 .1 .0) ((t2 .given) .0 .1 .1 .1 .0) pre (sym (mark-from .ensures .0) ∙ sym (token-from .ensures) ∙ (t2 .given) .1) (args .mark) (if3 .left)
 
 pub expect-spec : {M : Type 1} → statement M
 expect-spec =
     tie.close
     (tie.spec
     mark-from-requires
-    add-t15
+    add-t14
     returns
     token-from-requires
     enum-known-t

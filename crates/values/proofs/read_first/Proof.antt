@@ -17,8 +17,8 @@ use Rattle.values.proofs.read_first.Tie as tie
 mark-from-requires : tie.Need-mark-from-requires
 mark-from-requires c κs = search needs
 
-add-t17 : tie.Need-add-t17
-add-t17 c = search needs
+add-t16 : tie.Need-add-t16
+add-t16 c = search needs
 
 returns : tie.Need-returns
 returns c =
@@ -27,10 +27,10 @@ returns c =
     let args = c .before .before .before .before .args in
     let pre = c .before .before .before .before .pre in
     let g = mark-from .ensures .2 (omega (arith, if1 .taken)) in
-    first-shut (now (args .text)) (args .from) (mark-from .result .kind) (mark-from .result .place) ((mark-from .result .place) + 1) false (pre .1) (g .0) (args .signed) (args .unit) (args .min) (if1 .taken)
+    first-shut (now (args .text)) (args .from) (mark-from .result .kind) (mark-from .result .place) ((mark-from .result .place) + 1) false pre (g .0) (args .signed) (args .unit) (args .min) (if1 .taken)
 
-add-t18 : tie.Need-add-t18
-add-t18 c = search needs
+add-t17 : tie.Need-add-t17
+add-t17 c = search needs
 
 returns-2 : tie.Need-returns-2
 returns-2 c =
@@ -39,7 +39,7 @@ returns-2 c =
     let args = c .before .before .before .before .before .before .args in
     let pre = c .before .before .before .before .before .before .pre in
     let g = mark-from .ensures .2 (omega (arith, if2 .taken)) in
-    (λ r w. first-colon (now (args .text)) (args .from) (mark-from .result .kind) (mark-from .result .place) ((mark-from .result .place) + 1) false (pre .1) (g .0) (args .signed) (args .unit) (args .min) r (if2 .taken) w, g .1)
+    (λ r w. first-colon (now (args .text)) (args .from) (mark-from .result .kind) (mark-from .result .place) ((mark-from .result .place) + 1) false pre (g .0) (args .signed) (args .unit) (args .min) r (if2 .taken) w, g .1)
 
 token-from-requires : tie.Need-token-from-requires
 token-from-requires c κs = search needs
@@ -58,7 +58,7 @@ returns-3 c =
     let mark-from = c .before .before .before .before .before .before .before .before .before .mark-from in
     let token-from = c .before .before .before .before .token-from in
     let if3 = c .if3 in
-    first-shut (now (args .text)) (args .from) ((t2 .given) .0 .0) ((t2 .given) .0 .1 .0) ((t2 .given) .0 .1 .1 .0) ((t2 .given) .0 .1 .1 .1 .0) (pre .1) (sym (mark-from .ensures .0) ∙ sym (token-from .ensures) ∙ (t2 .given) .1) (args .signed) (args .unit) (args .min) (if3 .taken)
+    first-shut (now (args .text)) (args .from) ((t2 .given) .0 .0) ((t2 .given) .0 .1 .0) ((t2 .given) .0 .1 .1 .0) ((t2 .given) .0 .1 .1 .1 .0) pre (sym (mark-from .ensures .0) ∙ sym (token-from .ensures) ∙ (t2 .given) .1) (args .signed) (args .unit) (args .min) (if3 .taken)
 
 returns-4 : tie.Need-returns-4
 returns-4 c =
@@ -68,7 +68,7 @@ returns-4 c =
     let mark-from = c .before .before .before .before .before .before .before .before .before .before .mark-from in
     let token-from = c .before .before .before .before .before .token-from in
     let if4 = c .if4 in
-    (λ r w. first-colon (now (args .text)) (args .from) ((t2 .given) .0 .0) ((t2 .given) .0 .1 .0) ((t2 .given) .0 .1 .1 .0) ((t2 .given) .0 .1 .1 .1 .0) (pre .1) (sym (mark-from .ensures .0) ∙ sym (token-from .ensures) ∙ (t2 .given) .1) (args .signed) (args .unit) (args .min) r (if4 .taken) w, ahead (now (args .text)) (args .from) ((t2 .given) .0 .0) ((t2 .given) .0 .1 .0) ((t2 .given) .0 .1 .1 .0) ((t2 .given) .0 .1 .1 .1 .0) (pre .1) (sym (mark-from .ensures .0) ∙ sym (token-from .ensures) ∙ (t2 .given) .1) .1)
+    (λ r w. first-colon (now (args .text)) (args .from) ((t2 .given) .0 .0) ((t2 .given) .0 .1 .0) ((t2 .given) .0 .1 .1 .0) ((t2 .given) .0 .1 .1 .1 .0) pre (sym (mark-from .ensures .0) ∙ sym (token-from .ensures) ∙ (t2 .given) .1) (args .signed) (args .unit) (args .min) r (if4 .taken) w, ahead (now (args .text)) (args .from) ((t2 .given) .0 .0) ((t2 .given) .0 .1 .0) ((t2 .given) .0 .1 .1 .0) ((t2 .given) .0 .1 .1 .1 .0) pre (sym (mark-from .ensures .0) ∙ sym (token-from .ensures) ∙ (t2 .given) .1) .1)
 
 returns-5 : tie.Need-returns-5
 returns-5 c =
@@ -77,7 +77,7 @@ returns-5 c =
     let pre = c .before .before .before .before .before .before .before .before .before .before .pre in
     let mark-from = c .before .before .before .before .before .before .before .before .mark-from in
     let token-from = c .before .before .before .token-from in
-    stops (now (args .text)) (args .from) (t .given .0 .0) (t .given .0 .1 .0) (non (first (args .signed))) false (known (args .min) Absent) (args .unit) (pre .1) (sym (mark-from .ensures .0) ∙ sym (token-from .ensures) ∙ t .given .1)
+    stops (now (args .text)) (args .from) (t .given .0 .0) (t .given .0 .1 .0) (non (first (args .signed))) false (known (args .min) Absent) (args .unit) pre (sym (mark-from .ensures .0) ∙ sym (token-from .ensures) ∙ t .given .1)
 
 returns-6 : tie.Need-returns-6
 returns-6 c =
@@ -88,16 +88,16 @@ returns-6 c =
     let token-from = c .before .before .before .before .before .token-from in
     let if3 = c .before .if3 in
     let if4 = c .if4 in
-    first-wrong (now (args .text)) (args .from) ((t2 .given) .0 .0) ((t2 .given) .0 .1 .0) ((t2 .given) .0 .1 .1 .0) ((t2 .given) .0 .1 .1 .1 .0) (pre .1) (sym (mark-from .ensures .0) ∙ sym (token-from .ensures) ∙ (t2 .given) .1) (args .signed) (args .unit) (known (args .min) Absent) (if3 .left) (if4 .left)
+    first-wrong (now (args .text)) (args .from) ((t2 .given) .0 .0) ((t2 .given) .0 .1 .0) ((t2 .given) .0 .1 .1 .0) ((t2 .given) .0 .1 .1 .1 .0) pre (sym (mark-from .ensures .0) ∙ sym (token-from .ensures) ∙ (t2 .given) .1) (args .signed) (args .unit) (known (args .min) Absent) (if3 .left) (if4 .left)
 
 pub read-first-spec : {M : Type 1} → statement M
 read-first-spec =
     tie.close
     (tie.spec
     mark-from-requires
-    add-t17
+    add-t16
     returns
-    add-t18
+    add-t17
     returns-2
     token-from-requires
     enum-known-t

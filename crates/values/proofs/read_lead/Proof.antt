@@ -35,7 +35,7 @@ returns c =
     let pre = c .before .before .before .before .before .before .pre in
     let token-from = c .before .before .before .before .token-from in
     let if1 = c .if1 in
-    value-shut (now (args .text)) (args .from) ((t2 .given) .0 .0) ((t2 .given) .0 .1 .0) ((t2 .given) .0 .1 .1 .0) ((t2 .given) .0 .1 .1 .1 .0) (pre .1) (sym (token-from .ensures) ∙ (t2 .given) .1) (args .signed) (args .unit) (if1 .taken)
+    value-shut (now (args .text)) (args .from) ((t2 .given) .0 .0) ((t2 .given) .0 .1 .0) ((t2 .given) .0 .1 .1 .0) ((t2 .given) .0 .1 .1 .1 .0) pre (sym (token-from .ensures) ∙ (t2 .given) .1) (args .signed) (args .unit) (if1 .taken)
 
 returns-2 : tie.Need-returns-2
 returns-2 c =
@@ -44,7 +44,7 @@ returns-2 c =
     let pre = c .before .before .before .before .before .before .before .pre in
     let token-from = c .before .before .before .before .before .token-from in
     let if2 = c .if2 in
-    (λ r w. value-colon (now (args .text)) (args .from) ((t2 .given) .0 .0) ((t2 .given) .0 .1 .0) ((t2 .given) .0 .1 .1 .0) ((t2 .given) .0 .1 .1 .1 .0) (pre .1) (sym (token-from .ensures) ∙ (t2 .given) .1) (args .signed) (args .unit) r (if2 .taken) w, ahead (now (args .text)) (args .from) ((t2 .given) .0 .0) ((t2 .given) .0 .1 .0) ((t2 .given) .0 .1 .1 .0) ((t2 .given) .0 .1 .1 .1 .0) (pre .1) (sym (token-from .ensures) ∙ (t2 .given) .1) .1)
+    (λ r w. value-colon (now (args .text)) (args .from) ((t2 .given) .0 .0) ((t2 .given) .0 .1 .0) ((t2 .given) .0 .1 .1 .0) ((t2 .given) .0 .1 .1 .1 .0) pre (sym (token-from .ensures) ∙ (t2 .given) .1) (args .signed) (args .unit) r (if2 .taken) w, ahead (now (args .text)) (args .from) ((t2 .given) .0 .0) ((t2 .given) .0 .1 .0) ((t2 .given) .0 .1 .1 .0) ((t2 .given) .0 .1 .1 .1 .0) pre (sym (token-from .ensures) ∙ (t2 .given) .1) .1)
 
 number-here-requires : tie.Need-number-here-requires
 number-here-requires c κs =
@@ -52,7 +52,7 @@ number-here-requires c κs =
     let t2 = c .before .before .before .t2 in
     let pre = c .before .before .before .before .before .before .before .pre in
     let token-from = c .before .before .before .before .before .token-from in
-    let g = onwards (now (args .text)) (args .from) ((t2 .given) .0 .0) ((t2 .given) .0 .1 .0) ((t2 .given) .0 .1 .1 .0) ((t2 .given) .0 .1 .1 .1 .0) (pre .1) (sym (token-from .ensures) ∙ (t2 .given) .1) in (omega arith, g .2)
+    let g = onwards (now (args .text)) (args .from) ((t2 .given) .0 .0) ((t2 .given) .0 .1 .0) ((t2 .given) .0 .1 .1 .0) ((t2 .given) .0 .1 .1 .1 .0) pre (sym (token-from .ensures) ∙ (t2 .given) .1) in (omega arith, g .2)
 
 enum-known-h : tie.Need-enum-known-h
 enum-known-h c = search needs
@@ -66,7 +66,7 @@ read-first-requires c κs =
     let args = c .before .before .before .before .before .before .before .before .before .before .before .args in
     let t2 = c .before .before .before .before .before .before .before .t2 in
     let token-from = c .before .before .before .before .before .before .before .before .before .token-from in
-    (pre .0, ahead (now (args .text)) (args .from) ((t2 .given) .0 .0) ((t2 .given) .0 .1 .0) ((t2 .given) .0 .1 .1 .0) ((t2 .given) .0 .1 .1 .1 .0) (pre .1) (sym (token-from .ensures) ∙ (t2 .given) .1) .1)
+    ahead (now (args .text)) (args .from) ((t2 .given) .0 .0) ((t2 .given) .0 .1 .0) ((t2 .given) .0 .1 .1 .0) ((t2 .given) .0 .1 .1 .1 .0) pre (sym (token-from .ensures) ∙ (t2 .given) .1) .1
 
 returns-3 : tie.Need-returns-3
 returns-3 c =
@@ -74,7 +74,7 @@ returns-3 c =
     let t = c .before .t in
     let pre = c .before .before .before .before .before .pre in
     let token-from = c .before .before .before .token-from in
-    λ v. stops (now (args .text)) (args .from) (t .given .0 .0) (t .given .0 .1 .0) (non (value (args .signed))) true v (args .unit) (pre .1) (sym (token-from .ensures) ∙ t .given .1)
+    λ v. stops (now (args .text)) (args .from) (t .given .0 .0) (t .given .0 .1 .0) (non (value (args .signed))) true v (args .unit) pre (sym (token-from .ensures) ∙ t .given .1)
 
 returns-4 : tie.Need-returns-4
 returns-4 c =
@@ -87,7 +87,7 @@ returns-4 c =
     let if1 = c .before .before .before .before .before .if1 in
     let if2 = c .before .before .before .before .if2 in
     let a : (NumberHere (placed (now (args .text)) ((t2 .given) .0 .0) ((t2 .given) .0 .1 .0) ((t2 .given) .0 .1 .1 .0) ((t2 .given) .0 .1 .1 .1 .0)) (args .signed) (args .unit) true (here.Refused (h .given .0 .0) (h .given .0 .1 .0))) = rw (h .given .1) at (number-here .ensures) in
-    value-wrong (now (args .text)) (args .from) ((t2 .given) .0 .0) ((t2 .given) .0 .1 .0) ((t2 .given) .0 .1 .1 .0) ((t2 .given) .0 .1 .1 .1 .0) (pre .1) (sym (token-from .ensures) ∙ (t2 .given) .1) (args .signed) (args .unit) (h .given .0 .0) (h .given .0 .1 .0) (if1 .left) (if2 .left) a
+    value-wrong (now (args .text)) (args .from) ((t2 .given) .0 .0) ((t2 .given) .0 .1 .0) ((t2 .given) .0 .1 .1 .0) ((t2 .given) .0 .1 .1 .1 .0) pre (sym (token-from .ensures) ∙ (t2 .given) .1) (args .signed) (args .unit) (h .given .0 .0) (h .given .0 .1 .0) (if1 .left) (if2 .left) a
 
 returns-5 : tie.Need-returns-5
 returns-5 c =
@@ -105,7 +105,7 @@ returns-5 c =
     let f : toZ w64 (ofZ w64 (h2 .given .0 .0)) ≡ (h2 .given .0 .0) = search (needs, known-told4 .given) in
     let u = subst (λ (x : ℤ). FirstRead (now (args .text)) ((t2 .given) .0 .1 .1 .0) (args .signed) (args .unit) (Time x) (read-first .result)) f (read-first .ensures) in
     leads-on (now (args .text)) (args .signed) (args .unit) (Reads (now (args .text)) ((t2 .given) .0 .1 .1 .0) (non (first (args .signed))) false (known (Time (h2 .given .0 .0)) Absent) (args .unit)) (ReadsValue (now (args .text)) (args .from) (args .signed) (args .unit))
-    (λ r w. value-done (now (args .text)) (args .from) ((t2 .given) .0 .0) ((t2 .given) .0 .1 .0) ((t2 .given) .0 .1 .1 .0) ((t2 .given) .0 .1 .1 .1 .0) (pre .1) (sym (token-from .ensures) ∙ (t2 .given) .1) (args .signed) (args .unit) (h2 .given .0 .0) r (if1 .left) (if2 .left) a w) (read-first .result) u
+    (λ r w. value-done (now (args .text)) (args .from) ((t2 .given) .0 .0) ((t2 .given) .0 .1 .0) ((t2 .given) .0 .1 .1 .0) ((t2 .given) .0 .1 .1 .1 .0) pre (sym (token-from .ensures) ∙ (t2 .given) .1) (args .signed) (args .unit) (h2 .given .0 .0) r (if1 .left) (if2 .left) a w) (read-first .result) u
 
 pub read-lead-spec : {M : Type 1} → statement M
 read-lead-spec =

@@ -25,8 +25,8 @@ use Rattle.values.proofs.read_second.Tie as tie
 mark-from-requires : tie.Need-mark-from-requires
 mark-from-requires c κs = search needs
 
-add-t26 : tie.Need-add-t26
-add-t26 c = search needs
+add-t25 : tie.Need-add-t25
+add-t25 c = search needs
 
 returns : tie.Need-returns
 returns c =
@@ -35,7 +35,7 @@ returns c =
     let args = c .before .before .before .before .args in
     let pre = c .before .before .before .before .pre in
     let g = mark-from .ensures .2 (omega (arith, if1 .taken)) in
-    (λ x r w. second-colon (now (args .text)) (args .from) (mark-from .result .kind) (mark-from .result .place) ((mark-from .result .place) + 1) false (pre .1) (g .0) (args .signed) (args .unit) (args .some) x r (if1 .taken) w, g .1)
+    (λ x r w. second-colon (now (args .text)) (args .from) (mark-from .result .kind) (mark-from .result .place) ((mark-from .result .place) + 1) false pre (g .0) (args .signed) (args .unit) (args .some) x r (if1 .taken) w, g .1)
 
 token-from-requires : tie.Need-token-from-requires
 token-from-requires c κs = search needs
@@ -54,7 +54,7 @@ returns-2 c =
     let mark-from = c .before .before .before .before .before .before .before .mark-from in
     let token-from = c .before .before .before .before .token-from in
     let if2 = c .if2 in
-    (λ x r w. second-colon (now (args .text)) (args .from) ((t2 .given) .0 .0) ((t2 .given) .0 .1 .0) ((t2 .given) .0 .1 .1 .0) ((t2 .given) .0 .1 .1 .1 .0) (pre .1) (sym (mark-from .ensures .0) ∙ sym (token-from .ensures) ∙ (t2 .given) .1) (args .signed) (args .unit) (args .some) x r (if2 .taken) w, ahead (now (args .text)) (args .from) ((t2 .given) .0 .0) ((t2 .given) .0 .1 .0) ((t2 .given) .0 .1 .1 .0) ((t2 .given) .0 .1 .1 .1 .0) (pre .1) (sym (mark-from .ensures .0) ∙ sym (token-from .ensures) ∙ (t2 .given) .1) .1)
+    (λ x r w. second-colon (now (args .text)) (args .from) ((t2 .given) .0 .0) ((t2 .given) .0 .1 .0) ((t2 .given) .0 .1 .1 .0) ((t2 .given) .0 .1 .1 .1 .0) pre (sym (mark-from .ensures .0) ∙ sym (token-from .ensures) ∙ (t2 .given) .1) (args .signed) (args .unit) (args .some) x r (if2 .taken) w, ahead (now (args .text)) (args .from) ((t2 .given) .0 .0) ((t2 .given) .0 .1 .0) ((t2 .given) .0 .1 .1 .0) ((t2 .given) .0 .1 .1 .1 .0) pre (sym (mark-from .ensures .0) ∙ sym (token-from .ensures) ∙ (t2 .given) .1) .1)
 
 number-here-requires : tie.Need-number-here-requires
 number-here-requires c κs =
@@ -63,7 +63,7 @@ number-here-requires c κs =
     let pre = c .before .before .before .before .before .before .before .before .before .pre in
     let mark-from = c .before .before .before .before .before .before .before .mark-from in
     let token-from = c .before .before .before .before .token-from in
-    let g = onwards (now (args .text)) (args .from) ((t2 .given) .0 .0) ((t2 .given) .0 .1 .0) ((t2 .given) .0 .1 .1 .0) ((t2 .given) .0 .1 .1 .1 .0) (pre .1) (sym (mark-from .ensures .0) ∙ sym (token-from .ensures) ∙ (t2 .given) .1) in (omega arith, g .2)
+    let g = onwards (now (args .text)) (args .from) ((t2 .given) .0 .0) ((t2 .given) .0 .1 .0) ((t2 .given) .0 .1 .1 .0) ((t2 .given) .0 .1 .1 .1 .0) pre (sym (mark-from .ensures .0) ∙ sym (token-from .ensures) ∙ (t2 .given) .1) in (omega arith, g .2)
 
 enum-known-h : tie.Need-enum-known-h
 enum-known-h c = search needs
@@ -78,7 +78,7 @@ expect-requires c κs =
     let t2 = c .before .before .before .before .before .before .t2 in
     let mark-from = c .before .before .before .before .before .before .before .before .before .before .before .mark-from in
     let token-from = c .before .before .before .before .before .before .before .before .token-from in
-    (pre .0, ahead (now (args .text)) (args .from) ((t2 .given) .0 .0) ((t2 .given) .0 .1 .0) ((t2 .given) .0 .1 .1 .0) ((t2 .given) .0 .1 .1 .1 .0) (pre .1) (sym (mark-from .ensures .0) ∙ sym (token-from .ensures) ∙ (t2 .given) .1) .1)
+    ahead (now (args .text)) (args .from) ((t2 .given) .0 .0) ((t2 .given) .0 .1 .0) ((t2 .given) .0 .1 .1 .0) ((t2 .given) .0 .1 .1 .1 .0) pre (sym (mark-from .ensures .0) ∙ sym (token-from .ensures) ∙ (t2 .given) .1) .1
 
 enum-known-m : tie.Need-enum-known-m
 enum-known-m c = search needs
@@ -93,7 +93,7 @@ returns-3 c =
     let pre = c .before .before .before .before .before .before .before .before .pre in
     let mark-from = c .before .before .before .before .before .before .mark-from in
     let token-from = c .before .before .before .token-from in
-    λ x. stops (now (args .text)) (args .from) (t .given .0 .0) (t .given .0 .1 .0) (non (second (args .some) (args .signed))) false (known x Absent) (args .unit) (pre .1) (sym (mark-from .ensures .0) ∙ sym (token-from .ensures) ∙ t .given .1)
+    λ x. stops (now (args .text)) (args .from) (t .given .0 .0) (t .given .0 .1 .0) (non (second (args .some) (args .signed))) false (known x Absent) (args .unit) pre (sym (mark-from .ensures .0) ∙ sym (token-from .ensures) ∙ t .given .1)
 
 returns-4 : tie.Need-returns-4
 returns-4 c =
@@ -106,7 +106,7 @@ returns-4 c =
     let token-from = c .before .before .before .before .before .before .before .before .token-from in
     let if2 = c .before .before .before .before .if2 in
     let a : (NumberHere (placed (now (args .text)) ((t2 .given) .0 .0) ((t2 .given) .0 .1 .0) ((t2 .given) .0 .1 .1 .0) ((t2 .given) .0 .1 .1 .1 .0)) (args .signed) (args .unit) false (here.Refused (h .given .0 .0) (h .given .0 .1 .0))) = rw (h .given .1) at (number-here .ensures) in
-    λ x. second-wrong (now (args .text)) (args .from) ((t2 .given) .0 .0) ((t2 .given) .0 .1 .0) ((t2 .given) .0 .1 .1 .0) ((t2 .given) .0 .1 .1 .1 .0) (pre .1) (sym (mark-from .ensures .0) ∙ sym (token-from .ensures) ∙ (t2 .given) .1) (args .signed) (args .unit) (args .some) (known x Absent) (h .given .0 .0) (h .given .0 .1 .0) (if2 .left) a
+    λ x. second-wrong (now (args .text)) (args .from) ((t2 .given) .0 .0) ((t2 .given) .0 .1 .0) ((t2 .given) .0 .1 .1 .0) ((t2 .given) .0 .1 .1 .1 .0) pre (sym (mark-from .ensures .0) ∙ sym (token-from .ensures) ∙ (t2 .given) .1) (args .signed) (args .unit) (args .some) (known x Absent) (h .given .0 .0) (h .given .0 .1 .0) (if2 .left) a
 
 returns-5 : tie.Need-returns-5
 returns-5 c =
@@ -122,7 +122,7 @@ returns-5 c =
     let if2 = c .before .before .before .before .before .before .before .before .if2 in
     let a : (NumberHere (placed (now (args .text)) ((t2 .given) .0 .0) ((t2 .given) .0 .1 .0) ((t2 .given) .0 .1 .1 .0) ((t2 .given) .0 .1 .1 .1 .0)) (args .signed) (args .unit) false (here.Time (h2 .given .0 .0))) = rw (h2 .given .1) at (number-here .ensures) in
     let w : Marked (now (args .text)) ((t2 .given) .0 .1 .1 .0) 4 (mark.Refused (m .given .0 .0) (m .given .0 .1 .0)) = rw (m .given .1) at (expect .ensures) in
-    λ x. second-open (now (args .text)) (args .from) ((t2 .given) .0 .0) ((t2 .given) .0 .1 .0) ((t2 .given) .0 .1 .1 .0) ((t2 .given) .0 .1 .1 .1 .0) (pre .1) (sym (mark-from .ensures .0) ∙ sym (token-from .ensures) ∙ (t2 .given) .1) (args .signed) (args .unit) (args .some) x (h2 .given .0 .0) (m .given .0 .0) (m .given .0 .1 .0) (if2 .left) a w
+    λ x. second-open (now (args .text)) (args .from) ((t2 .given) .0 .0) ((t2 .given) .0 .1 .0) ((t2 .given) .0 .1 .1 .0) ((t2 .given) .0 .1 .1 .1 .0) pre (sym (mark-from .ensures .0) ∙ sym (token-from .ensures) ∙ (t2 .given) .1) (args .signed) (args .unit) (args .some) x (h2 .given .0 .0) (m .given .0 .0) (m .given .0 .1 .0) (if2 .left) a w
 
 returns-6 : tie.Need-returns-6
 returns-6 c =
@@ -141,14 +141,14 @@ returns-6 c =
     let w : Marked (now (args .text)) ((t2 .given) .0 .1 .1 .0) 4 (mark.At (m2 .given .0 .0)) = rw (m2 .given .1) at (expect .ensures) in
     let f : toZ w64 (ofZ w64 (h2 .given .0 .0)) ≡ (h2 .given .0 .0) = search (needs, known-told4 .given) in
     subst (λ (y : ℤ). MiddleRead (now (args .text)) (args .from) (args .some) (args .signed) (args .unit) (middle.Colon true (Time y) (m2 .given .0 .0))) (sym f)
-    (λ x r u. second-done (now (args .text)) (args .from) ((t2 .given) .0 .0) ((t2 .given) .0 .1 .0) ((t2 .given) .0 .1 .1 .0) ((t2 .given) .0 .1 .1 .1 .0) (pre .1) (sym (mark-from .ensures .0) ∙ sym (token-from .ensures) ∙ (t2 .given) .1) (args .signed) (args .unit) (args .some) x (h2 .given .0 .0) (m2 .given .0 .0) r (if2 .left) a w u, w .3)
+    (λ x r u. second-done (now (args .text)) (args .from) ((t2 .given) .0 .0) ((t2 .given) .0 .1 .0) ((t2 .given) .0 .1 .1 .0) ((t2 .given) .0 .1 .1 .1 .0) pre (sym (mark-from .ensures .0) ∙ sym (token-from .ensures) ∙ (t2 .given) .1) (args .signed) (args .unit) (args .some) x (h2 .given .0 .0) (m2 .given .0 .0) r (if2 .left) a w u, w .3)
 
 pub read-second-spec : {M : Type 1} → statement M
 read-second-spec =
     tie.close
     (tie.spec
     mark-from-requires
-    add-t26
+    add-t25
     returns
     token-from-requires
     enum-known-t

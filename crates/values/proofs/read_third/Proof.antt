@@ -37,7 +37,7 @@ returns c =
     let token-from = c .before .before .before .before .before .token-from in
     let if1 = c .before .if1 in
     let if2 = c .if2 in
-    third-shut (now (args .text)) (args .from) ((t2 .given) .0 .0) ((t2 .given) .0 .1 .0) ((t2 .given) .0 .1 .1 .0) ((t2 .given) .0 .1 .1 .1 .0) (pre .1) (sym (token-from .ensures) ∙ (t2 .given) .1) (args .signed) (args .unit) (args .some) (args .min) (args .typ) (if1 .taken) (if2 .taken)
+    third-shut (now (args .text)) (args .from) ((t2 .given) .0 .0) ((t2 .given) .0 .1 .0) ((t2 .given) .0 .1 .1 .0) ((t2 .given) .0 .1 .1 .1 .0) pre (sym (token-from .ensures) ∙ (t2 .given) .1) (args .signed) (args .unit) (args .some) (args .min) (args .typ) (if1 .taken) (if2 .taken)
 
 returns-2 : tie.Need-returns-2
 returns-2 c =
@@ -47,7 +47,7 @@ returns-2 c =
     let token-from = c .before .before .before .before .before .token-from in
     let if1 = c .before .if1 in
     let if2 = c .if2 in
-    third-lacks (now (args .text)) (args .from) ((t2 .given) .0 .0) ((t2 .given) .0 .1 .0) ((t2 .given) .0 .1 .1 .0) ((t2 .given) .0 .1 .1 .1 .0) (pre .1) (sym (token-from .ensures) ∙ (t2 .given) .1) (args .signed) (args .unit) (args .some) (record { min = args .min; typ = args .typ; max = Absent }) (if1 .taken) (if2 .left)
+    third-lacks (now (args .text)) (args .from) ((t2 .given) .0 .0) ((t2 .given) .0 .1 .0) ((t2 .given) .0 .1 .1 .0) ((t2 .given) .0 .1 .1 .1 .0) pre (sym (token-from .ensures) ∙ (t2 .given) .1) (args .signed) (args .unit) (args .some) (record { min = args .min; typ = args .typ; max = Absent }) (if1 .taken) (if2 .left)
 
 number-here-requires : tie.Need-number-here-requires
 number-here-requires c κs =
@@ -55,7 +55,7 @@ number-here-requires c κs =
     let t2 = c .before .before .t2 in
     let pre = c .before .before .before .before .before .before .pre in
     let token-from = c .before .before .before .before .token-from in
-    let g = (onwards (now (args .text)) (args .from) ((t2 .given) .0 .0) ((t2 .given) .0 .1 .0) ((t2 .given) .0 .1 .1 .0) ((t2 .given) .0 .1 .1 .1 .0) (pre .1) (sym (token-from .ensures) ∙ (t2 .given) .1)) in (omega arith, g .2)
+    let g = (onwards (now (args .text)) (args .from) ((t2 .given) .0 .0) ((t2 .given) .0 .1 .0) ((t2 .given) .0 .1 .1 .0) ((t2 .given) .0 .1 .1 .1 .0) pre (sym (token-from .ensures) ∙ (t2 .given) .1)) in (omega arith, g .2)
 
 enum-known-h : tie.Need-enum-known-h
 enum-known-h c = search needs
@@ -69,7 +69,7 @@ expect-requires c κs =
     let args = c .before .before .before .before .before .before .before .before .before .before .args in
     let t2 = c .before .before .before .before .before .before .t2 in
     let token-from = c .before .before .before .before .before .before .before .before .token-from in
-    (pre .0, (ahead (now (args .text)) (args .from) ((t2 .given) .0 .0) ((t2 .given) .0 .1 .0) ((t2 .given) .0 .1 .1 .0) ((t2 .given) .0 .1 .1 .1 .0) (pre .1) (sym (token-from .ensures) ∙ (t2 .given) .1)) .1)
+    (ahead (now (args .text)) (args .from) ((t2 .given) .0 .0) ((t2 .given) .0 .1 .0) ((t2 .given) .0 .1 .1 .0) ((t2 .given) .0 .1 .1 .1 .0) pre (sym (token-from .ensures) ∙ (t2 .given) .1)) .1
 
 enum-known-m : tie.Need-enum-known-m
 enum-known-m c = search needs
@@ -83,7 +83,7 @@ returns-3 c =
     let t = c .before .t in
     let pre = c .before .before .before .before .before .pre in
     let token-from = c .before .before .before .token-from in
-    stops (now (args .text)) (args .from) (t .given .0 .0) (t .given .0 .1 .0) (non (third (args .some) (args .signed))) false (record { min = args .min; typ = args .typ; max = Absent }) (args .unit) (pre .1) (sym (token-from .ensures) ∙ t .given .1)
+    stops (now (args .text)) (args .from) (t .given .0 .0) (t .given .0 .1 .0) (non (third (args .some) (args .signed))) false (record { min = args .min; typ = args .typ; max = Absent }) (args .unit) pre (sym (token-from .ensures) ∙ t .given .1)
 
 returns-4 : tie.Need-returns-4
 returns-4 c =
@@ -95,7 +95,7 @@ returns-4 c =
     let token-from = c .before .before .before .before .before .before .before .before .token-from in
     let if1 = c .before .before .before .before .if1 in
     let a : (NumberHere (placed (now (args .text)) ((t2 .given) .0 .0) ((t2 .given) .0 .1 .0) ((t2 .given) .0 .1 .1 .0) ((t2 .given) .0 .1 .1 .1 .0)) (args .signed) (args .unit) false (here.Refused (h .given .0 .0) (h .given .0 .1 .0))) = rw (h .given .1) at (number-here .ensures) in
-    third-wrong (now (args .text)) (args .from) ((t2 .given) .0 .0) ((t2 .given) .0 .1 .0) ((t2 .given) .0 .1 .1 .0) ((t2 .given) .0 .1 .1 .1 .0) (pre .1) (sym (token-from .ensures) ∙ (t2 .given) .1) (args .signed) (args .unit) (args .some) (record { min = args .min; typ = args .typ; max = Absent }) (h .given .0 .0) (h .given .0 .1 .0) (if1 .left) a
+    third-wrong (now (args .text)) (args .from) ((t2 .given) .0 .0) ((t2 .given) .0 .1 .0) ((t2 .given) .0 .1 .1 .0) ((t2 .given) .0 .1 .1 .1 .0) pre (sym (token-from .ensures) ∙ (t2 .given) .1) (args .signed) (args .unit) (args .some) (record { min = args .min; typ = args .typ; max = Absent }) (h .given .0 .0) (h .given .0 .1 .0) (if1 .left) a
 
 returns-5 : tie.Need-returns-5
 returns-5 c =
@@ -110,7 +110,7 @@ returns-5 c =
     let if1 = c .before .before .before .before .before .before .before .before .if1 in
     let a : (NumberHere (placed (now (args .text)) ((t2 .given) .0 .0) ((t2 .given) .0 .1 .0) ((t2 .given) .0 .1 .1 .0) ((t2 .given) .0 .1 .1 .1 .0)) (args .signed) (args .unit) false (here.Time (h2 .given .0 .0))) = rw (h2 .given .1) at (number-here .ensures) in
     let w : Marked (now (args .text)) ((t2 .given) .0 .1 .1 .0) 3 (mark.Refused (m .given .0 .0) (m .given .0 .1 .0)) = rw (m .given .1) at (expect .ensures) in
-    third-open (now (args .text)) (args .from) ((t2 .given) .0 .0) ((t2 .given) .0 .1 .0) ((t2 .given) .0 .1 .1 .0) ((t2 .given) .0 .1 .1 .1 .0) (pre .1) (sym (token-from .ensures) ∙ (t2 .given) .1) (args .signed) (args .unit) (args .some) (args .min) (args .typ) (h2 .given .0 .0) (m .given .0 .0) (m .given .0 .1 .0) (if1 .left) a w
+    third-open (now (args .text)) (args .from) ((t2 .given) .0 .0) ((t2 .given) .0 .1 .0) ((t2 .given) .0 .1 .1 .0) ((t2 .given) .0 .1 .1 .1 .0) pre (sym (token-from .ensures) ∙ (t2 .given) .1) (args .signed) (args .unit) (args .some) (args .min) (args .typ) (h2 .given .0 .0) (m .given .0 .0) (m .given .0 .1 .0) (if1 .left) a w
 
 returns-6 : tie.Need-returns-6
 returns-6 c =
@@ -128,7 +128,7 @@ returns-6 c =
     let f : toZ w64 (ofZ w64 (h2 .given .0 .0)) ≡ (h2 .given .0 .0) = search needs in
     subst (λ (x : ℤ). Reads (now (args .text)) (args .from) (non (third (args .some) (args .signed))) false (record { min = args .min; typ = args .typ; max = Absent }) (args .unit)
     (rv.Value (record { min = args .min; typ = args .typ; max = Time x }) (m2 .given .0 .0))) (sym f)
-    (third-done (now (args .text)) (args .from) ((t2 .given) .0 .0) ((t2 .given) .0 .1 .0) ((t2 .given) .0 .1 .1 .0) ((t2 .given) .0 .1 .1 .1 .0) (pre .1) (sym (token-from .ensures) ∙ (t2 .given) .1) (args .signed) (args .unit) (args .some) (args .min) (args .typ) (h2 .given .0 .0) (m2 .given .0 .0) (if1 .left) a w)
+    (third-done (now (args .text)) (args .from) ((t2 .given) .0 .0) ((t2 .given) .0 .1 .0) ((t2 .given) .0 .1 .1 .0) ((t2 .given) .0 .1 .1 .1 .0) pre (sym (token-from .ensures) ∙ (t2 .given) .1) (args .signed) (args .unit) (args .some) (args .min) (args .typ) (h2 .given .0 .0) (m2 .given .0 .0) (if1 .left) a w)
 
 pub read-third-spec : {M : Type 1} → statement M
 read-third-spec =

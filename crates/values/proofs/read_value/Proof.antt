@@ -26,9 +26,8 @@ read-second-requires c κs =
     let args = c .before .before .before .before .before .args in
     let a3 = c .before .a3 in
     let read-lead = c .before .before .before .read-lead in
-    let pre = c .before .before .before .before .before .pre in
     let w : LeadRead (now (args .text)) (args .from) (args .signed) (args .unit) (lead.Colon (a3 .given .0 .0) (a3 .given .0 .1 .0) (a3 .given .0 .1 .1 .0)) = rw (a3 .given .1) at (read-lead .ensures) in
-    (pre .0, w .1)
+    w .1
 
 enum-known-b : tie.Need-enum-known-b
 enum-known-b c = search needs
@@ -42,9 +41,8 @@ read-third-requires c κs =
     let a3 = c .before .before .before .before .before .a3 in
     let b2 = c .before .b2 in
     let read-second = c .before .before .before .read-second in
-    let pre = c .before .before .before .before .before .before .before .before .before .pre in
     let u : MiddleRead (now (args .text)) (a3 .given .0 .1 .1 .0) (a3 .given .0 .0) (args .signed) (args .unit) (middle.Colon (b2 .given .0 .0) (b2 .given .0 .1 .0) (b2 .given .0 .1 .1 .0)) = rw (b2 .given .1) at (read-second .ensures) in
-    (pre .0, u .1)
+    u .1
 
 returns : tie.Need-returns
 returns c =

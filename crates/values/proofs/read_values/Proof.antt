@@ -18,15 +18,15 @@ use Rattle.values.proofs.read_values.Statement.{statement}
 use Rattle.values.proofs.read_values.Tie as tie
 
 abbrev Inv-loop : tie.InvT-loop
-Inv-loop text table from unit end list₀ n₀ p₀ list n p = (n ≤ 6) × (length list ≡ 6) × (from ≤ p) × (p ≤ length text) × Listed text from unit p (take n list) n
+Inv-loop text from unit end list₀ n₀ p₀ list n p = (n ≤ 6) × (length list ≡ 6) × (from ≤ p) × (p ≤ length text) × Listed text from unit p (take n list) n
 
 abbrev μ-loop : tie.MeasureT-loop
-μ-loop text table from unit end list₀ n₀ p₀ list n p = 6 - n
+μ-loop text from unit end list₀ n₀ p₀ list n p = 6 - n
 
 read-value-requires : tie.Need-read-value-requires Inv-loop μ-loop
 read-value-requires c κs =
     let pre = c .before .pre in
-    (pre .0, (pre .1))
+    pre
 
 enum-known-a : tie.Need-enum-known-a Inv-loop μ-loop
 enum-known-a c =
@@ -60,9 +60,8 @@ loop-holds c =
 
 token-from-requires : tie.Need-token-from-requires Inv-loop μ-loop
 token-from-requires c κs =
-    let pre = c .before .before .before .before .before .before .before .pre in
     let loop' = c .loop in
-    (pre .0, (loop' .inv) .3)
+    (loop' .inv) .3
 
 enum-known-t : tie.Need-enum-known-t Inv-loop μ-loop
 enum-known-t c =
@@ -111,12 +110,11 @@ returns-3 c =
 
 read-value-requires-2 : tie.Need-read-value-requires-2 Inv-loop μ-loop
 read-value-requires-2 c κs =
-    let pre = c .before .before .before .before .before .before .before .before .before .before .before .before .before .before .pre in
     let args = c .before .before .before .before .before .before .before .before .before .before .before .before .before .before .args in
     let loop' = c .before .before .before .before .before .before .before .loop in
     let t2 = c .before .before .before .before .t2 in
     let token-from = c .before .before .before .before .before .before .token-from in
-    (pre .0, ahead (now (args .text)) (loop' .p) ((t2 .given) .0 .0) ((t2 .given) .0 .1 .0) ((t2 .given) .0 .1 .1 .0) ((t2 .given) .0 .1 .1 .1 .0) ((loop' .inv) .3) (sym (token-from .ensures) ∙ (t2 .given) .1) .1)
+    ahead (now (args .text)) (loop' .p) ((t2 .given) .0 .0) ((t2 .given) .0 .1 .0) ((t2 .given) .0 .1 .1 .0) ((t2 .given) .0 .1 .1 .1 .0) ((loop' .inv) .3) (sym (token-from .ensures) ∙ (t2 .given) .1) .1
 
 enum-known-b : tie.Need-enum-known-b Inv-loop μ-loop
 enum-known-b c =
