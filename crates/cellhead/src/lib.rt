@@ -1,5 +1,4 @@
 // The reader of what stands at the head of a cell: its type and its instance.
-ghost use mathlib.Core.Path.{_≡_};
 ghost use Prim.Native.Nat.{_+_, _-_, _≤_};
 ghost use lib.ListN.{length};
 ghost use Rattle.cellhead.specs.Heads.{InstanceRead, PathHere, PathBehind, HeadRead};

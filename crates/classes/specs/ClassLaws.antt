@@ -1,7 +1,7 @@
 -- Laws of the classes: what each single class is, over all 256 byte values by one computed list each; and what holds of any number, since
 -- beyond 0x7E all are illegal.
 -- Assumes nothing.
-use Prim.Native.Nat.{ℕ, _+_, _≤_, _<_, zero-le}
+use Prim.Native.Nat.{ℕ, _≤_, _<_, zero-le}
 use native.Mathlib.Nat.{zero-add}
 use native.Mathlib.Omega.{arith}
 use mathlib.Core.Path.{_≡_, refl, sym, ap, _∙_}
@@ -10,7 +10,7 @@ use mathlib.Core.Logic.{_⊎_, inl, inr, ⊎-elim}
 use mathlib.Core.List.{List}
 use lib.Dec.{eqb, leb}
 use lib.ListN.{getD, replicate}
-use borrow.Author.Tests.{ne-eqb, eq-eqb, eqb-true, lt-leb, leb-true, leb-false}
+use borrow.Author.Tests.{ne-eqb, eq-eqb, lt-leb, leb-true, leb-false}
 use Rattle.classes.specs.Choice.{pick, or, and, within}
 use Rattle.classes.specs.Each.{each, each-at, between}
 use Rattle.classes.specs.Classes.{isWhite, isPlain, classOf, markOf}

@@ -50,20 +50,21 @@ pub fn is_digit(byte: u8) -> bool
     is_within(b'0', b'9', byte)
 }
 
-// Plain in a word: most bytes are, and most of those are digits and letters.
+// Plain in a word: mostly letters, then digits and points.
 pub fn is_plain(byte: u8) -> bool
     ensures { λ r. ⌜ r ≡ eqb (classOf byte) 7 ⌝ }
 {
-    if is_digit(byte) {
-        return true;
-    }
     if is_letter(byte) {
         return true;
     }
-    match byte {
-        b'_' | b'$' | b'.' | b'+' | b'-' => true,
-        _ => false,
+    // - . / and the digits
+    if is_within(b'-', b'9', byte) {
+        return byte != b'/';
     }
+    if byte == b'_' {
+        return true;
+    }
+    byte == b'$' || byte == b'+'
 }
 
 pub fn is_white(byte: u8) -> bool

@@ -1,5 +1,5 @@
 // The readers of entries: recursive descent over the tokens of a text. Each contract is an equation between readings
-// (rules/specs/Contracts.antt). Every reader takes the text, the table of byte classes, and the place from which to read.
+// (rules/specs/Contracts.antt). Every reader takes the text and the place from which to read.
 ghost use mathlib.Core.Path.{_≡_};
 ghost use mathlib.Core.Bool.{true, false};
 ghost use mathlib.Core.List.{[], _∷_};

@@ -1,6 +1,5 @@
 // The readers of a header's parts: brackets, keywords, quoted texts, triples of numbers, the divider. Each contract is an equation between
 // readings (specs/Steps.antt).
-ghost use mathlib.Core.Path.{_≡_};
 ghost use mathlib.Core.Bool.{true, false};
 ghost use mathlib.Core.List.{[], _∷_};
 ghost use Prim.Native.Nat.{_≤_};

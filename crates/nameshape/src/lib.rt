@@ -4,8 +4,9 @@ ghost use mathlib.Core.Bool.{true, false};
 ghost use Prim.Native.Nat.{_≤_};
 ghost use lib.Dec.{eqb};
 ghost use lib.ListN.{length};
-ghost use Rattle.classes.specs.Choice.{pick, within};
+ghost use Rattle.classes.specs.Choice.{pick};
 ghost use Rattle.nameshape.specs.Shape.{isNameByte, isEscapable, isLegal, escapes, mayFollow, divider, bodyNext, bracketNext, nameNext, nameRun, plainRun, mayEnd, isPath, isPort, isText};
+use classes::is_within;
 
 // Where a reader of a name's bytes stands.
 const START: u8 = 0; // before a component's first byte
@@ -27,15 +28,6 @@ const INDEXED: u8 = 7; // behind the `]` of `[n]`
 const RANGED: u8 = 8; // behind the `]` of `[n:n]`
 
 const WRONG: u8 = 9; // no name goes on like this
-
-fn is_within(low: u8, high: u8, byte: u8) -> bool
-    ensures { λ r. ⌜ r ≡ within low high byte ⌝ }
-{
-    if low <= byte {
-        return byte <= high;
-    }
-    false
-}
 
 // A letter, a digit, `_` or `$`.
 fn is_name_byte(byte: u8) -> bool

@@ -4,11 +4,11 @@ ghost use Prim.Native.Nat.{_+_, _-_, _*_, _≤_, _<_, min};
 ghost use lib.Dec.{eqb};
 ghost use lib.ListN.{length, drop};
 ghost use Rattle.classes.specs.Choice.{and};
-ghost use Rattle.classes.specs.Classes.{isDigit};
 ghost use Rattle.numbershape.specs.Shape.{first, run, signs, lead, pointed, isNumber};
 ghost use Rattle.numbershape.specs.Places.{powerAt, found};
 ghost use Rattle.numbershape.specs.Steps.{stop, start};
 ghost use Rattle.numbershape.specs.Scans.{Scans};
+use classes::is_digit;
 
 // One more than the 10^15 femtoseconds of the longest time: where numbers are stopped, since all beyond are alike.
 const STOP: u64 = 1_000_000_000_000_001;
@@ -55,15 +55,6 @@ pub struct Digits {
     pub value: u64,
     pub left: usize,
     pub fine: bool,
-}
-
-fn is_digit(byte: u8) -> bool
-    ensures { λ r. ⌜ r ≡ isDigit byte ⌝ }
-{
-    if b'0' <= byte {
-        return byte <= b'9';
-    }
-    false
 }
 
 // A digit's value.

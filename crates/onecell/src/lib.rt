@@ -1,5 +1,4 @@
 // The reader of a text that is one cell, as a re-issued one comes.
-ghost use mathlib.Core.Path.{_≡_};
 ghost use mathlib.Core.Bool.{true, false};
 ghost use Prim.Native.Nat.{_*_, _-_, _/_, _≤_, _<_};
 ghost use lib.ListN.{length};

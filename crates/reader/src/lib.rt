@@ -1,5 +1,4 @@
 // The reader: a whole file, into tables that the caller lends.
-ghost use mathlib.Core.Path.{_≡_};
 ghost use mathlib.Core.Bool.{true, false};
 ghost use Prim.Native.Nat.{_*_, _-_, _/_, _≤_, _<_};
 ghost use lib.ListN.{length};

@@ -1,13 +1,14 @@
 -- Laws of runs: one byte more, and the tests on a byte by itself in place of its class.
 -- Assumes nothing.
-use Prim.Native.Nat.{ℕ, _+_, _-_, _≤_, _<_}
+use Prim.Native.Nat.{ℕ, zero, suc, _+_, _≤_, _<_}
+use native.Mathlib.Nat.{add-zero}
 use native.Mathlib.Omega.{arith}
 use mathlib.Core.Path.{_≡_, refl, sym, ap, _∙_}
 use mathlib.Core.Bool.{Bool, true, false, not, true≢false}
 use mathlib.Core.List.{List}
 use lib.Dec.{eqb, leb}
-use lib.ListN.{length, getD, drop, List·getD-eq-default}
-use borrow.Author.Tests.{lt-leb, le-leb, leb-true, leb-false, ne-eqb, eqb-true, not-false}
+use lib.ListN.{length, getD, List·getD-eq-default}
+use borrow.Author.Tests.{lt-leb, le-leb, leb-true, leb-false, eq-eqb, ne-eqb, eqb-true, not-false}
 use Rattle.classes.specs.Choice.{pick, and, within}
 use Rattle.classes.specs.Classes.{classOf}
 use Rattle.classes.specs.ClassLaws.{class-most, colon-byte, slash-byte, square-byte, unsquare-byte, back-byte}
@@ -128,3 +129,38 @@ word-starts s i h l = by (wordHalts 0 (getD s i 0) (getD s (i + 1) 0)) refl
     by : (v : Bool) → wordHalts 0 (getD s i 0) (getD s (i + 1) 0) ≡ v → (7 ≤ classOf (getD s i 0)) × (classOf (getD s i 0) ≤ 11)
     by true e = let z = stops wordHalts wordGoes s 0 i h e in absurd (omega arith)
     by false e = starts (classOf (getD s i 0)) (getD s (i + 1) 0) e (class-most (getD s i 0))
+
+-- where a comment begins, no word does
+pub uncommented : (s : List ℕ) (i : ℕ) → i < length s → i < wordEnd s i → commented s i ≡ false
+unfolding wordStop
+uncommented s i h l = by (eqb c 47) refl (commences d) refl
+  where
+    c : ℕ
+    c = getD s i 0
+
+    d : ℕ
+    d = getD s (i + 1) 0
+
+    by : (v : Bool) → eqb c 47 ≡ v → (w : Bool) → commences d ≡ w → and v w ≡ false
+    by true e true f =
+        let k : classOf c ≡ 8 = eqb-true (classOf c) 8 (slash-byte c ∙ e) in
+        let z = stops wordHalts wordGoes s 0 i h (rw k f) in
+        absurd (omega arith)
+    by true e false f = refl
+    by false e w f = refl
+
+-- whether no word goes on from a place
+pub ends-by : (s : List ℕ) (i : ℕ) → i < length s → eqb (wordEnd s i) i ≡ wordHalts 0 (getD s i 0) (getD s (i + 1) 0)
+ends-by s i h = by (wordHalts 0 (getD s i 0) (getD s (i + 1) 0)) refl
+  where
+    by : (v : Bool) → wordHalts 0 (getD s i 0) (getD s (i + 1) 0) ≡ v → eqb (wordEnd s i) i ≡ v
+    by true e = eq-eqb _ _ (stops wordHalts wordGoes s 0 i h e)
+    by false e = let g = goes-on wordHalts wordGoes s 0 i h e in ne-eqb (wordEnd s i) i (λ z. omega arith)
+
+-- n plain bytes
+pub plain-all : (s : List ℕ) (i n : ℕ) → i + n ≤ length s → ((k : ℕ) → i ≤ k → k < i + n → classOf (getD s k 0) ≡ 7) → wordFrom 0 s (i + n) ≡ wordFrom 0 s i
+plain-all s i zero h f = ap (wordFrom 0 s) (add-zero i)
+plain-all s i (suc n) h f =
+    ap (wordFrom 0 s) (let z : i + suc n ≡ i + n + 1 = omega arith in z)
+    ∙ plain-goes s 0 (i + n) (omega arith) (omega arith) (f (i + n) (omega arith) (omega arith))
+    ∙ plain-all s i n (omega arith) (λ k l u. f k l (omega arith))

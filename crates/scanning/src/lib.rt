@@ -1,6 +1,7 @@
 // Small machines that scan a text: where a word ends, where blanks and comments end, where a quoted text ends.
 ghost use mathlib.Core.Path.{_≡_};
 ghost use Prim.Native.Nat.{_+_, _≤_, _<_};
+ghost use lib.Dec.{eqb};
 ghost use lib.ListN.{length, getD, drop};
 ghost use Rattle.classes.specs.Classes.{classOf};
 ghost use Rattle.scanning.specs.Scan.{scanLen};
@@ -101,6 +102,21 @@ pub fn word_end(text: &[u8], from: usize) -> usize
         state = word_next(state, byte);
         i += word_step(byte);
     }
+}
+
+// Whether no word goes on from a place.
+pub fn ends_word(text: &[u8], place: usize) -> bool
+    requires { ⌜ place ≤ length (now text) ⌝ }
+    ensures { λ r. ⌜ r ≡ eqb (wordEnd (now (text .entry)) place) place ⌝ }
+{
+    if text.len() <= place {
+        return true;
+    }
+    let byte = text[place];
+    if is_plain(byte) {
+        return false;
+    }
+    word_stop(0, byte, peek(text, place + 1))
 }
 
 fn blank_stop(mode: u8, class: u8, behind: u8) -> bool

@@ -13,6 +13,9 @@ use Rattle.numbershape.specs.Shape.{leading, pointed, fractionOf, belowOf, powe
 use Rattle.numbershape.specs.Value.{exact, numberOf}
 use Rattle.numbershape.specs.Places.{found, partsAt}
 use Rattle.times.specs.Reading.{number-placed}
+use Rattle.times.specs.declared.Plainly.{Plainly}
+use Rattle.times.specs.declared.Plainly.the-variants as found
+use Rattle.times.specs.Standing.{dotted, plainly}
 
 -- a word in a signed place, and in another, with no TIMESCALE: 1 ns, 10 ^ 6 femtoseconds
 abbrev pub inSigned : String → Number
@@ -72,3 +75,19 @@ huge = (
   number-placed true 6 (bytes "0e99999999999999999999"),
   number-placed true 6 (bytes "0e-99999999999"),
 )
+
+-- where they stand, from the second byte on
+abbrev pub standing : String → Plainly
+standing s = plainly 6 (bytes s) 1
+
+pub stood :
+    (standing "(1.25:2)" ≡ found.Time (pos 1250000) 5)
+    × (standing "(7" ≡ found.Time (pos 7000000) 2)
+    × (standing "(0.0000010)" ≡ found.Time (pos 1) 10)
+    × (standing "(0.0000001)" ≡ found.Other)
+    × (standing "(1.2.3)" ≡ found.Other)
+    × (standing "(1.)" ≡ found.Other)
+    × (standing "(-1)" ≡ found.Other)
+    × (standing "(" ≡ found.Other)
+unfolding run signs digitsThen marked exponentFits fractionFits isNumber leading pointed fractionOf belowOf powerOf partsOf exact numberOf dotted plainly
+stood = (refl, refl, refl, refl, refl, refl, refl, refl)

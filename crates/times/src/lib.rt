@@ -1,11 +1,13 @@
 // A number's exact value in femtoseconds (document 01, 'Numbers and times').
 ghost use mathlib.Core.Path.{_≡_};
 ghost use Prim.Native.Nat.{_+_, _-_, _*_, _^_, _≤_, _<_, min};
-ghost use lib.ListN.{length, drop};
+ghost use lib.Dec.{eqb};
+ghost use lib.ListN.{length, getD, drop};
 ghost use Rattle.numbershape.specs.Shape.{digitsOf};
 ghost use Rattle.numbershape.specs.Value.{horner, atMost, exact, numberOf};
 ghost use Rattle.numbershape.specs.Fast.{Small};
 ghost use Rattle.numbershape.specs.Steps.{stop, figures, stepOf, fold, start, answerOf};
+ghost use Rattle.times.specs.Standing.{timeTo, plainly};
 ghost use Rattle.times.specs.Plain.{plainOf};
 use numbershape::Number;
 use numbershape::Found;
@@ -14,9 +16,15 @@ use numbershape::Digits;
 // One more than the 10^15 femtoseconds of the longest time: where numbers are stopped, since all beyond are alike.
 const STOP: u64 = 1_000_000_000_000_001;
 
-// A word of digits with or without a point and no exponent: its digits' number, stopped at 10^15 + 1, and how many stand behind the point.
+// Digits, with or without a point and digits behind it: their number, stopped at 10^15 + 1, how many stand behind the point, and where they end.
 enum Plain {
-    Value { value: u64, fraction: usize },
+    Value { value: u64, fraction: usize, end: usize },
+    Other,
+}
+
+// A time read where it stands, and where it ends.
+pub enum Plainly {
+    Time { femtoseconds: i64, end: usize },
     Other,
 }
 
@@ -194,37 +202,43 @@ fn read_any(word: &[u8], signed: bool, scale: u8) -> Number
     )
 }
 
-// A word of digits with or without a point and no exponent, from a place on.
-fn scan_plain(word: &[u8], start: usize) -> Plain
-    requires { ⌜ start ≤ length (now word) ⌝ }
-    ensures { λ r. ⌜ r ≡ plainOf (drop start (now (word .entry))) ⌝ }
+// Whether a point stands at a place.
+fn is_point(text: &[u8], at: usize) -> bool
+    ensures { λ r. ⌜ r ≡ eqb (getD (now (text .entry)) at 0) 46 ⌝ }
 {
-    let whole = numbershape::scan_digits(word, start, 0);
+    if at < text.len() {
+        return text[at] == b'.';
+    }
+    false
+}
+
+// Digits, with or without a point and digits behind it, from a place on and as far as they go.
+fn scan_plain(text: &[u8], start: usize) -> Plain
+    requires { ⌜ start ≤ length (now text) ⌝ }
+    ensures { λ r. ⌜ r ≡ plainOf start (drop start (now (text .entry))) ⌝ }
+{
+    let whole = numbershape::scan_digits(text, start, 0);
     let point = whole.end;
     if point == start {
         return Plain::Other;
     }
-    if point == word.len() {
+    if !is_point(text, point) {
         return Plain::Value {
             value: whole.value,
             fraction: 0,
+            end: point,
         };
     }
-    if word[point] != b'.' {
-        return Plain::Other;
-    }
-    let all = numbershape::scan_digits(word, point + 1, whole.value);
+    let all = numbershape::scan_digits(text, point + 1, whole.value);
     let end = all.end;
     let fraction = end - (point + 1);
     if fraction == 0 {
         return Plain::Other;
     }
-    if end < word.len() {
-        return Plain::Other;
-    }
     Plain::Value {
         value: all.value,
         fraction: fraction,
+        end: end,
     }
 }
 
@@ -234,12 +248,46 @@ pub fn read_number(word: &[u8], signed: bool, scale: u8) -> Number
     ensures { λ r. ⌜ r ≡ numberOf signed scale (now (word .entry)) ⌝ }
 {
     let start = numbershape::count_lead(word, signed);
-    let Plain::Value { value, fraction } = scan_plain(word, start) else {
+    let Plain::Value { value, fraction, end } = scan_plain(word, start) else {
         return read_any(word, signed, scale);
     };
+    if end < word.len() {
+        return read_any(word, signed, scale);
+    }
     let unit = scale as usize;
     if unit < fraction {
         return read_any(word, signed, scale);
     }
     finish(numbershape::is_minus(word, signed), raise(value, unit - fraction))
+}
+
+// A number's time, with where it ends.
+fn time_to(end: usize, number: Number) -> Plainly
+    ensures { λ r. ⌜ r ≡ timeTo end number ⌝ }
+{
+    let Number::Time(femtoseconds) = number else {
+        return Plainly::Other;
+    };
+    Plainly::Time {
+        femtoseconds: femtoseconds,
+        end: end,
+    }
+}
+
+// The time that the digits and points from a place on write, all of them, with a time scale of 10^scale femtoseconds; Other where they write none.
+pub fn read_plain(text: &[u8], from: usize, scale: u8) -> Plainly
+    requires { ⌜ from ≤ length (now text) ⌝ }
+    ensures { λ r. ⌜ r ≡ plainly scale (now (text .entry)) from ⌝ }
+{
+    let Plain::Value { value, fraction, end } = scan_plain(text, from) else {
+        return Plainly::Other;
+    };
+    if is_point(text, end) {
+        return Plainly::Other;
+    }
+    let unit = scale as usize;
+    if unit < fraction {
+        return time_to(end, read_any(&text[from..end], false, scale));
+    }
+    time_to(end, finish(false, raise(value, unit - fraction)))
 }

@@ -21,7 +21,7 @@ pub fn next_token(text: &[u8], from: usize) -> Token
     token_from(text, from)
 }
 
-// Where the token from a place on ends, or 0 where there is none.
+// Where the token from a place on ends, or 0 where there is none: as a rule it is a mark or a word.
 fn token_end(text: &[u8], from: usize) -> usize
     requires { ⌜ from ≤ length (now text) ⌝ }
     ensures { λ r. ⌜ r ≡ endOf (tokenAt (now (text .entry)) from) ⌝ }
@@ -30,6 +30,10 @@ fn token_end(text: &[u8], from: usize) -> usize
     let place = sign.place;
     if 2 <= sign.kind {
         return place + 1;
+    }
+    let e = scanning::word_end(text, place);
+    if place < e {
+        return e;
     }
     let t = token_from(text, place);
     let Token::Got {

@@ -1,21 +1,39 @@
 -- The parts of a value, as its readers hand them on: what reading on from there comes to, reading from here comes to.
 -- Assumes nothing.
+use mathlib.Core.Path.{_≡_}
 use mathlib.Core.Bool.{Bool, false}
+use mathlib.Core.Logic.{_⊎_}
 use mathlib.Core.List.{List}
 use Prim.Native.Nat.{ℕ, _≤_}
 use lib.ListN.{length}
+use Rattle.tokenforms.specs.Tokens.{tokenAt}
+use Rattle.tokenforms.specs.declared.Token.the-variants.{Got, Stop}
+use Rattle.tokens.specs.Stream.{placed}
 use Rattle.grammar.specs.Ll.{non}
 use Rattle.grammar.specs.Grammar.{first, second, third}
 use Rattle.grammar.specs.declared.Amount.{Amount}
 use Rattle.grammar.specs.declared.Amount.the-variants.{Absent}
+use Rattle.grammar.specs.declared.Here.the-variants as here
 use Rattle.grammar.specs.declared.Value.{Value}
 use Rattle.grammar.specs.declared.ReadValue.{ReadValue}
 use Rattle.grammar.specs.declared.ReadValue.the-variants as rv
-use Rattle.rules.specs.Contracts.{Reads, ReadsValue}
+use Rattle.rules.specs.Contracts.{NumberHere, Reads, ReadsValue}
+use Rattle.values.specs.declared.Seen.{Seen}
+use Rattle.values.specs.declared.Seen.the-variants as seen
 use Rattle.values.specs.declared.Lead.{Lead}
 use Rattle.values.specs.declared.Lead.the-variants as lead
 use Rattle.values.specs.declared.Middle.{Middle}
 use Rattle.values.specs.declared.Middle.the-variants as middle
+
+-- what stands where a number may: of the token from there on, what it is as a number
+abbrev pub Sees : List ℕ → ℕ → Bool → ℕ → Bool → Seen → Type 0
+Sees s p sg unit o (seen.Time z e) =
+    (k : ℕ) × (b : ℕ) × (l : Bool) × (tokenAt s p ≡ Got k b e l) × NumberHere (placed s k b e l) sg unit o (here.Time z) × (k ≡ 3 → ⊥) × (k ≡ 4 → ⊥)
+Sees s p sg unit o (seen.Mark k b e) =
+    (l : Bool) × (tokenAt s p ≡ Got k b e l) × NumberHere (placed s k b e l) sg unit o (here.Refused 4 b) × ((k ≡ 3) ⊎ (k ≡ 4))
+Sees s p sg unit o (seen.Refused n q) =
+    (tokenAt s p ≡ Stop n q)
+    ⊎ ((k : ℕ) × (b : ℕ) × (e : ℕ) × (l : Bool) × (tokenAt s p ≡ Got k b e l) × NumberHere (placed s k b e l) sg unit o (here.Refused n q) × (k ≡ 3 → ⊥) × (k ≡ 4 → ⊥))
 
 -- a value of which these are known
 abbrev pub known : Amount → Amount → Value

@@ -1,5 +1,5 @@
 // The readers of values: numbers, triples, lists of them, empty brackets. Each contract is an equation between readings
-// (rules/specs/Contracts.antt). Every reader takes the text, the table of byte classes, and the place from which to read.
+// (rules/specs/Contracts.antt). Every reader takes the text and the place from which to read.
 ghost use mathlib.Core.Path.{_≡_};
 ghost use mathlib.Core.Bool.{true, false};
 ghost use Prim.Native.Nat.{_+_, _-_, _≤_, _<_};
@@ -9,13 +9,15 @@ ghost use Rattle.grammar.specs.Ll.{non};
 ghost use Rattle.grammar.specs.Grammar.{third};
 ghost use Rattle.grammar.specs.Meaning.{wrongly};
 ghost use Rattle.rules.specs.Contracts.{refusalOf, NumberHere, Marked, Reads, ReadsValue, OpensValue, ReadsValues, OpensValues};
-ghost use Rattle.values.specs.Parts.{LeadRead, FirstRead, MiddleRead};
+ghost use Rattle.values.specs.Parts.{Sees, LeadRead, FirstRead, MiddleRead};
 use tokenforms::Token;
 use tokenforms::token_from;
 use tokens::mark_from;
 use words::key_of;
 use numbershape::Number;
+use times::Plainly;
 use times::read_number;
+use times::read_plain;
 use grammar::Amount;
 use grammar::Value;
 use grammar::Here;
@@ -120,6 +122,56 @@ pub enum Middle {
     Refused { number: u8, place: usize },
 }
 
+// What stands where a number may: a time; a closing bracket or a colon, of kind 3 or 4; or a refusal.
+pub enum Seen {
+    Time { z: i64, end: usize },
+    Mark { kind: u8, start: usize, end: usize },
+    Refused { number: u8, place: usize },
+}
+
+// What stands where a number may, of whatever form.
+fn see_token(text: &[u8], from: usize, signed: bool, unit: u8, opened: bool) -> Seen
+    requires { ⌜ from ≤ length (now text) ⌝ }
+    ensures { λ r. ⌜ Sees (now (text .entry)) from signed unit opened r ⌝ }
+{
+    let t = token_from(text, from);
+    match t {
+        Token::Stop { number, place } => Seen::Refused { number: number, place: place },
+        Token::Got { kind, start, end, long } => {
+            if kind == 3 {
+                return Seen::Mark { kind: kind, start: start, end: end };
+            }
+            if kind == 4 {
+                return Seen::Mark { kind: kind, start: start, end: end };
+            }
+            let h = number_here(text, kind, start, end, long, signed, unit, opened);
+            match h {
+                Here::Refused { number, place } => Seen::Refused { number: number, place: place },
+                Here::Time(z) => Seen::Time { z: z, end: end },
+            }
+        }
+    }
+}
+
+// What stands where a number may. Most numbers are plain, and read where they stand: they are words if no word goes on behind them.
+fn see_number(text: &[u8], from: usize, signed: bool, unit: u8, opened: bool) -> Seen
+    requires { ⌜ from ≤ length (now text) ⌝ }
+    ensures { λ r. ⌜ Sees (now (text .entry)) from signed unit opened r ⌝ }
+{
+    let p = read_plain(text, from, unit);
+    match p {
+        Plainly::Other => see_token(text, from, signed, unit, opened),
+        Plainly::Time { femtoseconds, end } => {
+            if scanning::ends_word(text, end) {
+                if end - from <= 1024 {
+                    return Seen::Time { z: femtoseconds, end: end };
+                }
+            }
+            see_token(text, from, signed, unit, opened)
+        }
+    }
+}
+
 // Behind a value's second colon; some: whether a number stands before.
 fn read_third(
     text: &[u8],
@@ -133,26 +185,23 @@ fn read_third(
     requires { ⌜ from ≤ length (now text) ⌝ }
     ensures { λ r. ⌜ Reads (now (text .entry)) from (non (third some signed)) false (record { min = min; typ = typ; max = Amount.Absent }) unit r ⌝ }
 {
-    let t = token_from(text, from);
+    let t = see_number(text, from, signed, unit, false);
     match t {
-        Token::Stop { number, place } => ReadValue::Refused { number: number, place: place },
-        Token::Got { kind, start, end, long } => {
-            if kind == 3 {
-                if some {
-                    return ReadValue::Value { v: Value { min: min, typ: typ, max: Amount::Absent }, end: end };
-                }
+        Seen::Refused { number, place } => ReadValue::Refused { number: number, place: place },
+        Seen::Mark { kind, start, end } => {
+            if kind == 4 {
                 return ReadValue::Refused { number: 4, place: start };
             }
-            let h = number_here(text, kind, start, end, long, signed, unit, false);
-            match h {
-                Here::Refused { number, place } => ReadValue::Refused { number: number, place: place },
-                Here::Time(z) => {
-                    let m = expect(text, end, 3);
-                    match m {
-                        Mark::Refused { number, place } => ReadValue::Refused { number: number, place: place },
-                        Mark::At(e) => ReadValue::Value { v: Value { min: min, typ: typ, max: Amount::Time(z) }, end: e },
-                    }
-                }
+            if some {
+                return ReadValue::Value { v: Value { min: min, typ: typ, max: Amount::Absent }, end: end };
+            }
+            ReadValue::Refused { number: 4, place: start }
+        }
+        Seen::Time { z, end } => {
+            let m = expect(text, end, 3);
+            match m {
+                Mark::Refused { number, place } => ReadValue::Refused { number: number, place: place },
+                Mark::At(e) => ReadValue::Value { v: Value { min: min, typ: typ, max: Amount::Time(z) }, end: e },
             }
         }
     }
@@ -168,23 +217,20 @@ fn read_second(text: &[u8], from: usize, some: bool, signed: bool, unit: u8) -> 
     if m.kind == 4 {
         return Middle::Colon { some: some, typ: Amount::Absent, end: i + 1 };
     }
-    let t = token_from(text, i);
+    let t = see_number(text, i, signed, unit, false);
     match t {
-        Token::Stop { number, place } => Middle::Refused { number: number, place: place },
-        Token::Got { kind, start, end, long } => {
+        Seen::Refused { number, place } => Middle::Refused { number: number, place: place },
+        Seen::Mark { kind, start, end } => {
             if kind == 4 {
                 return Middle::Colon { some: some, typ: Amount::Absent, end: end };
             }
-            let h = number_here(text, kind, start, end, long, signed, unit, false);
-            match h {
-                Here::Refused { number, place } => Middle::Refused { number: number, place: place },
-                Here::Time(z) => {
-                    let m = expect(text, end, 4);
-                    match m {
-                        Mark::Refused { number, place } => Middle::Refused { number: number, place: place },
-                        Mark::At(e) => Middle::Colon { some: true, typ: Amount::Time(z), end: e },
-                    }
-                }
+            Middle::Refused { number: 4, place: start }
+        }
+        Seen::Time { z, end } => {
+            let m = expect(text, end, 4);
+            match m {
+                Mark::Refused { number, place } => Middle::Refused { number: number, place: place },
+                Mark::At(e) => Middle::Colon { some: true, typ: Amount::Time(z), end: e },
             }
         }
     }
@@ -223,22 +269,16 @@ fn read_lead(text: &[u8], from: usize, signed: bool, unit: u8) -> Lead
     requires { ⌜ from ≤ length (now text) ⌝ }
     ensures { λ r. ⌜ LeadRead (now (text .entry)) from signed unit r ⌝ }
 {
-    let t = token_from(text, from);
+    let t = see_number(text, from, signed, unit, true);
     match t {
-        Token::Stop { number, place } => Lead::Refused { number: number, place: place },
-        Token::Got { kind, start, end, long } => {
+        Seen::Refused { number, place } => Lead::Refused { number: number, place: place },
+        Seen::Mark { kind, start: _, end } => {
             if kind == 3 {
                 return Lead::Whole { v: Value { min: Amount::Absent, typ: Amount::Absent, max: Amount::Absent }, end: end };
             }
-            if kind == 4 {
-                return Lead::Colon { some: false, min: Amount::Absent, end: end };
-            }
-            let h = number_here(text, kind, start, end, long, signed, unit, true);
-            match h {
-                Here::Refused { number, place } => Lead::Refused { number: number, place: place },
-                Here::Time(z) => read_first(text, end, signed, unit, Amount::Time(z)),
-            }
+            Lead::Colon { some: false, min: Amount::Absent, end: end }
         }
+        Seen::Time { z, end } => read_first(text, end, signed, unit, Amount::Time(z)),
     }
 }
 

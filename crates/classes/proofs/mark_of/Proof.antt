@@ -1,8 +1,7 @@
 -- `classes::mark_of` meets its contract.
 -- Assumes nothing.
 use mathlib.Core.Path.{refl}
-use mathlib.Core.List.{List, [], _∷_}
-use Prim.Native.Nat.{ℕ}
+use mathlib.Core.List.{[], _∷_}
 use native.Mathlib.Omega.{arith}
 use Rattle.classes.specs.Classes.{classOf, markOf}
 use Rattle.classes.proofs.Keys.{keyed, ranged}

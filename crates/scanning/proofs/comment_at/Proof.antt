@@ -1,6 +1,5 @@
 -- `scanning::comment_at` meets its contract.
 -- Assumes nothing.
-use mathlib.Core.Path.{_≡_, sym, _∙_}
 use borrow.Author.Needs.{needs}
 use borrow.Author.Tests.{eq-eqb, ne-eqb}
 use Rattle.scanning.proofs.comment_at.Statement.{statement}

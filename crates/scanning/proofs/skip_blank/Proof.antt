@@ -1,7 +1,7 @@
 -- `scanning::skip_blank` meets its contract.
 -- Assumes nothing.
 use Prim.Native.Nat.{zero-le}
-use mathlib.Core.Path.{_≡_, sym, _∙_}
+use mathlib.Core.Path.{sym, _∙_}
 use denote.Ref.{now}
 use borrow.Author.Needs.{needs}
 use Rattle.scanning.specs.RunLaws.{unblank}

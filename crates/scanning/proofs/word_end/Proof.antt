@@ -2,14 +2,14 @@
 -- Assumes nothing.
 use Prim.Native.Nat.{_≤_, _<_, _+_, _-_}
 use native.Mathlib.Omega.{arith}
-use mathlib.Core.Path.{_≡_, sym, _∙_, ap}
+use mathlib.Core.Path.{_≡_, sym, _∙_}
 use mathlib.Core.Bool.{true, false}
 use denote.Ref.{now}
 use lib.ListN.{length, getD}
 use borrow.Author.Needs.{needs}
 use Rattle.scanning.specs.Scan.{stops, ends}
 use Rattle.scanning.specs.Machines.{wordHalts, wordGoes, wordEnd}
-use Rattle.scanning.specs.Runs.{wordFrom, bracketed, widthOf}
+use Rattle.scanning.specs.Runs.{wordFrom}
 use Rattle.scanning.specs.RunLaws.{word-goes, width-some}
 use Rattle.scanning.proofs.word_end.Statement.{statement}
 use Rattle.scanning.proofs.word_end.Tie as tie

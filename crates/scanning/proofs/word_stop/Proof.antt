@@ -1,13 +1,9 @@
 -- `scanning::word_stop` meets its contract.
 -- Assumes nothing.
-use native.Mathlib.Omega.{arith}
-use mathlib.Core.Path.{_≡_, refl, sym, _∙_}
-use mathlib.Core.Bool.{true, false}
+use mathlib.Core.Path.{sym, _∙_}
 use mathlib.Core.Logic.{inl, inr, ⊎-elim}
-use lib.Dec.{eqb}
 use borrow.Author.Needs.{needs}
 use borrow.Author.Tests.{eq-eqb, ne-eqb}
-use Rattle.scanning.specs.Machines.{wordHalts}
 use Rattle.scanning.specs.RunLaws.{halts-by}
 use Rattle.scanning.proofs.word_stop.Statement.{statement}
 use Rattle.scanning.proofs.word_stop.Tie as tie

@@ -1,6 +1,5 @@
 -- `tokenforms::other_here` meets its contract.
 -- Assumes nothing.
-use native.Mathlib.Omega.{arith}
 use borrow.Author.Needs.{needs}
 use borrow.Author.Tests.{le-leb, lt-leb, eq-eqb, ne-eqb}
 use Rattle.tokenforms.specs.Tokens.{tokenOf}

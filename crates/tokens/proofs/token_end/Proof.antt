@@ -3,12 +3,14 @@
 use Prim.Native.Nat.{ℕ}
 use native.Mathlib.Omega.{arith}
 use mathlib.Core.Path.{_≡_, refl, sym, ap, _∙_}
+use denote.Ref.{now}
 use denote.Enum.Declared.{tagOf, declared}
 use borrow.Author.Needs.{needs}
 use Rattle.tokenforms.proofs.Token.{enum}
 use Rattle.tokenforms.specs.declared.Token.{Token}
 use Rattle.tokenforms.specs.declared.Token.the-variants.{Got, Stop}
 use Rattle.tokens.specs.Stream.{endOf}
+use Rattle.tokens.specs.Quick.{word-token}
 use Rattle.tokens.proofs.token_end.Statement.{statement}
 use Rattle.tokens.proofs.token_end.Tie as tie
 
@@ -27,6 +29,17 @@ returns c =
     let sign = c .before .before .mark-from in
     sym (ap endOf (sign .ensures .2 (c .if1 .taken) .0))
 
+word-end-requires : tie.Need-word-end-requires
+word-end-requires c κs = search needs
+
+returns-2 : tie.Need-returns-2
+returns-2 c =
+    let sign = c .before .before .before .before .mark-from in
+    let text = c .before .before .before .before .before .before .args .text in
+    let w = c .before .word-end in
+    let found = word-token (now text) (sign .result .place) (w .result) (omega (arith, w .ensures .1, c .if2 .taken)) (sym (w .ensures .0)) (c .if2 .taken) in
+    sym (ap endOf (sym (sign .ensures .0) ∙ found))
+
 token-from-requires : tie.Need-token-from-requires
 token-from-requires c κs = search needs
 
@@ -36,18 +49,18 @@ enum-known-t c = search needs
 enum-told : tie.Need-enum-told
 enum-told c = search needs
 
-returns-2 : tie.Need-returns-2
-returns-2 c =
-    let sign = c .before .before .before .before .before .mark-from in
+returns-3 : tie.Need-returns-3
+returns-3 c =
+    let sign = c .before .before .before .before .before .before .before .mark-from in
     let t = c .before .before .token-from in
     sym (ap endOf (sym (sign .ensures .0) ∙ sym (t .ensures)) ∙ none (t .result) (c .before .match .keys2))
 
-returns-3 : tie.Need-returns-3
-returns-3 c =
-    let sign = c .before .before .before .before .before .before .mark-from in
+returns-4 : tie.Need-returns-4
+returns-4 c =
+    let sign = c .before .before .before .before .before .before .before .before .mark-from in
     let t = c .before .before .before .token-from in
     sym (ap endOf (sym (sign .ensures .0) ∙ sym (t .ensures) ∙ c .before .t .given .1))
 
 pub token-end-spec : {M : Type 1} → statement M
 token-end-spec =
-    tie.close (tie.spec mark-from-requires add-result returns token-from-requires enum-known-t enum-told returns-2 returns-3)
+    tie.close (tie.spec mark-from-requires add-result returns word-end-requires returns-2 token-from-requires enum-known-t enum-told returns-3 returns-4)
