@@ -4,7 +4,7 @@ ghost use lib.ListN.{length};
 ghost use Rattle.cellhead.specs.Heads.{InstanceRead, PathHere, PathBehind, HeadRead};
 ghost use Rattle.tokens.specs.Stream.{placed};
 use tokenforms::Token;
-use tokenforms::token_from;
+use tokens::token_from;
 use nameshape::is_path;
 use headsteps::take_opened;
 use headsteps::take_next;

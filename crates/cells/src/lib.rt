@@ -10,7 +10,7 @@ ghost use Rattle.tables.specs.Pastes.{put};
 ghost use Rattle.rules.specs.Bodies.{Either, Turned, OpenTurned, shutBy, itemPlace};
 ghost use Rattle.cells.specs.Cells.{Sighted, groupOf, BodyRead};
 use tokenforms::Token;
-use tokenforms::token_from;
+use tokens::token_from;
 use tokens::mark_from;
 use words::key_of;
 use values::wrong_at;

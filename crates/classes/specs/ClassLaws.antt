@@ -13,15 +13,12 @@ use lib.ListN.{getD, replicate}
 use borrow.Author.Tests.{ne-eqb, eq-eqb, lt-leb, leb-true, leb-false}
 use Rattle.classes.specs.Choice.{pick, or, and, within}
 use Rattle.classes.specs.Each.{each, each-at, between}
-use Rattle.classes.specs.Classes.{isWhite, isPlain, classOf, markOf}
+use Rattle.classes.specs.Classes.{isWhite, isLegal, isPlain, classOf, markOf}
 
 -- where two functions give the same list of 256 answers, they agree on every byte
 pub on-bytes : {A : Type 0} (f g : ℕ → A) → each f 0 256 ≡ each g 0 256 → (b : ℕ) → b < 256 → f b ≡ g b
 on-bytes {A} f g e b h =
     sym (each-at f (f b) 256 0 b h ∙ ap f (zero-add b)) ∙ ap (λ (l : List A). getD l b (f b)) e ∙ each-at g (f b) 256 0 b h ∙ ap g (zero-add b)
-
-abbrev pub isLegal : ℕ → Bool
-isLegal b = or (within 0x20 0x7E b) (isWhite b)
 
 pub white-rule : (b : ℕ) → b < 256 → eqb (classOf b) 1 ≡ isWhite b
 unfolding classOf
@@ -35,6 +32,14 @@ pub legal-rule : (b : ℕ) → b < 256 → not (eqb (classOf b) 0) ≡ isLegal b
 unfolding classOf
 legal-rule = on-bytes (λ b. not (eqb (classOf b) 0)) isLegal refl
 
+-- a byte of a range is not below it
+pub within-low : (lo hi c : ℕ) → within lo hi c ≡ true → lo ≤ c
+within-low lo hi c h = by (leb lo c) refl h
+  where
+    by : (v : Bool) → leb lo c ≡ v → and v (leb c hi) ≡ true → lo ≤ c
+    by true e t = leb-true lo c e
+    by false e t = absurd (true≢false (sym t))
+
 -- beyond 0x7E
 outside : (lo hi c : ℕ) → hi < c → within lo hi c ≡ false
 outside lo hi c h = by (leb lo c)
@@ -46,12 +51,30 @@ outside lo hi c h = by (leb lo c)
 pub beyond : (c : ℕ) → 0x7E < c → classOf c ≡ 0
 unfolding classOf
 beyond c h =
-    rw (ne-eqb c 9 (λ e. omega arith), ne-eqb c 10 (λ e. omega arith), ne-eqb c 13 (λ e. omega arith), ne-eqb c 32 (λ e. omega arith),
-      ne-eqb c 40 (λ e. omega arith), ne-eqb c 41 (λ e. omega arith), ne-eqb c 58 (λ e. omega arith), ne-eqb c 42 (λ e. omega arith),
-      ne-eqb c 34 (λ e. omega arith), outside 65 90 c (omega arith), outside 97 122 c (omega arith), outside 48 57 c (omega arith),
-      ne-eqb c 95 (λ e. omega arith), ne-eqb c 36 (λ e. omega arith), ne-eqb c 46 (λ e. omega arith), ne-eqb c 43 (λ e. omega arith),
-      ne-eqb c 45 (λ e. omega arith), ne-eqb c 47 (λ e. omega arith), ne-eqb c 91 (λ e. omega arith), ne-eqb c 93 (λ e. omega arith),
-      ne-eqb c 92 (λ e. omega arith), outside 32 126 c h)
+    rw (
+      ne-eqb c 9 (λ e. omega arith),
+      ne-eqb c 10 (λ e. omega arith),
+      ne-eqb c 13 (λ e. omega arith),
+      ne-eqb c 32 (λ e. omega arith),
+      ne-eqb c 40 (λ e. omega arith),
+      ne-eqb c 41 (λ e. omega arith),
+      ne-eqb c 58 (λ e. omega arith),
+      ne-eqb c 42 (λ e. omega arith),
+      ne-eqb c 34 (λ e. omega arith),
+      outside 65 90 c (omega arith),
+      outside 97 122 c (omega arith),
+      outside 48 57 c (omega arith),
+      ne-eqb c 95 (λ e. omega arith),
+      ne-eqb c 36 (λ e. omega arith),
+      ne-eqb c 46 (λ e. omega arith),
+      ne-eqb c 43 (λ e. omega arith),
+      ne-eqb c 45 (λ e. omega arith),
+      ne-eqb c 47 (λ e. omega arith),
+      ne-eqb c 91 (λ e. omega arith),
+      ne-eqb c 93 (λ e. omega arith),
+      ne-eqb c 92 (λ e. omega arith),
+      outside 32 126 c h,
+    )
 
 -- what is computed up to 0x7E holds of any number, or it is illegal
 printable : (f : ℕ → Bool) → each f 0 127 ≡ replicate 127 true → (c : ℕ) → (f c ≡ true) ⊎ (classOf c ≡ 0)

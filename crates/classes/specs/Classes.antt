@@ -10,22 +10,30 @@ use Rattle.classes.specs.Choice.{pick, or, within}
 abbrev pub is : Char → ℕ → Bool
 is c b = eqb b (code c)
 
+-- from one character to another, both included
+abbrev pub fromTo : Char → Char → ℕ → Bool
+fromTo first last b = within (code first) (code last) b
+
 -- 'Tab, LF, CR and space are white space.'
 abbrev pub isWhite : ℕ → Bool
-isWhite b = or (eqb b 9) (or (eqb b 10) (or (eqb b 13) (is " " b)))
+isWhite b = or (is "\t" b) (or (is "\n" b) (or (is "\r" b) (is " " b)))
+
+-- 'Legal bytes are tab, LF, CR and 0x20 to 0x7E.'
+abbrev pub isLegal : ℕ → Bool
+isLegal b = or (within 0x20 0x7E b) (isWhite b)
 
 abbrev pub isLetter : ℕ → Bool
-isLetter b = or (within 65 90 b) (within 97 122 b)
+isLetter b = or (fromTo "A" "Z" b) (fromTo "a" "z" b)
 
 abbrev pub isDigit : ℕ → Bool
-isDigit b = within 48 57 b
+isDigit b = fromTo "0" "9" b
 
 -- 'letters, digits, _ $ . + -': what a word takes wherever it stands
 abbrev pub isPlain : ℕ → Bool
 isPlain b = or (isLetter b) (or (isDigit b) (or (is "_" b) (or (is "$" b) (or (is "." b) (or (is "+" b) (is "-" b))))))
 
 -- 'There is one class for each of the 256 byte values.' 1 white space; 2 to 6 the marks and the quote; 7 plain in a word; 8 to 11 what a
--- word takes with a condition; 12 'any other printable byte'; and 0 an illegal one: 'Legal bytes are tab, LF, CR and 0x20 to 0x7E.'
+-- word takes with a condition; 12 'any other printable byte'; and 0 an illegal one.
 unfoldable pub classOf : ℕ → ℕ
 classOf b =
     pick (isWhite b) 1

@@ -1,10 +1,9 @@
 // The class of a byte, by comparisons against document 01's ranges, in the order and the words of its 'Bytes and words'; and the questions that
 // the loops over a text ask of every byte, each about a single class.
 ghost use mathlib.Core.Path.{_≡_};
-ghost use mathlib.Core.Bool.{not};
 ghost use lib.Dec.{eqb};
 ghost use Rattle.classes.specs.Choice.{within};
-ghost use Rattle.classes.specs.Classes.{isLetter, isDigit, classOf, markOf};
+ghost use Rattle.classes.specs.Classes.{isLegal, isLetter, isDigit, classOf, markOf};
 
 pub fn class_of(byte: u8) -> u8
     ensures { λ r. ⌜ r ≡ classOf byte ⌝ }
@@ -70,27 +69,30 @@ pub fn is_plain(byte: u8) -> bool
 pub fn is_white(byte: u8) -> bool
     ensures { λ r. ⌜ r ≡ eqb (classOf byte) 1 ⌝ }
 {
-    match byte {
-        b'\t' | b'\n' | b'\r' | b' ' => true,
-        _ => false,
+    if byte == b' ' {
+        return true;
     }
+    is_within(b'\t', b'\n', byte) || byte == b'\r'
 }
 
 pub fn is_legal(byte: u8) -> bool
-    ensures { λ r. ⌜ r ≡ not (eqb (classOf byte) 0) ⌝ }
+    ensures { λ r. ⌜ r ≡ isLegal byte ⌝ }
 {
     is_within(0x20, 0x7E, byte) || is_white(byte)
 }
 
-// The class of a mark: ( ) : * . 0 for any other byte.
+// The class of a mark: ( ) : * . 0 for any other byte. Most marks are brackets, whose two classes follow each other as they do.
 pub fn mark_of(byte: u8) -> u8
     ensures { λ r. ⌜ r ≡ markOf byte ⌝ }
 {
-    match byte {
-        b'(' => 2,
-        b')' => 3,
-        b':' => 4,
-        b'*' => 5,
-        _ => 0,
+    if is_within(b'(', b')', byte) {
+        return byte - b'(' + 2;
     }
+    if byte == b':' {
+        return 4;
+    }
+    if byte == b'*' {
+        return 5;
+    }
+    0
 }

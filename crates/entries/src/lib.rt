@@ -12,7 +12,7 @@ ghost use Rattle.rules.specs.Contracts.{ValuesFrom, Entered, Listable, withValu
 ghost use Rattle.rules.specs.Entries.{checkValues, SecondValue, delayTail, checkTail};
 ghost use Rattle.classes.specs.Choice.{pick};
 use tokenforms::Token;
-use tokenforms::token_from;
+use tokens::token_from;
 use words::key_of;
 use kinds::has_second;
 use kinds::is_signed;

@@ -6,7 +6,7 @@ ghost use Rattle.tokens.specs.Stream.{placed};
 ghost use Rattle.grammar.specs.Grammar.{second};
 ghost use Rattle.rules.specs.Contracts.{PortHere, ReadsPort, EdgeIs, ReadsEnd, ReadsEdged};
 use tokenforms::Token;
-use tokenforms::token_from;
+use tokens::token_from;
 use words::edge_of;
 use nameshape::is_port;
 use grammar::Mark;

@@ -11,7 +11,7 @@ use grammar::Hand;
 use grammar::Head;
 use grammar::Mark;
 use tokenforms::Token;
-use tokenforms::token_from;
+use tokens::token_from;
 use words::scale_of;
 use words::unit_of;
 

@@ -16,7 +16,7 @@ use grammar::Mark;
 use grammar::ReadName;
 use numbershape::is_number;
 use tokenforms::Token;
-use tokenforms::token_from;
+use tokens::token_from;
 use words::divider_of;
 use words::key_of;
 

@@ -10,7 +10,7 @@ use lib.Dec.{leb, eqb, eqb·suc-zero}
 use lib.ListN.{length, getD, drop, drop-of-length-le}
 use lib.Seq.{drop-cons}
 use Rattle.classes.specs.Choice.{pick, or, and, within}
-use Rattle.classes.specs.Classes.{isLetter, isDigit, isWhite}
+use Rattle.classes.specs.Classes.{isLegal, isLetter, isDigit}
 
 -- 'letters, digits, `_`, `$`'
 unfoldable pub isNameByte : ℕ → Bool
@@ -18,7 +18,7 @@ isNameByte c = or (isLetter c) (or (isDigit c) (or (eqb c 95) (eqb c 36)))
 
 -- 'A backslash takes the next byte, 0x21 to 0x7E, into the word'
 unfoldable pub isEscapable : ℕ → Bool
-isEscapable c = within 33 126 c
+isEscapable c = within 0x21 0x7E c
 
 -- 'the divider (`.` unless DIVIDER says otherwise)'
 unfoldable pub divider : Bool → ℕ
@@ -91,10 +91,6 @@ isPath slash x = isName false slash x
 
 unfoldable pub isPort : Bool → List ℕ → Bool
 isPort slash x = isName true slash x
-
--- 'Legal bytes are tab, LF, CR and 0x20 to 0x7E'
-unfoldable pub isLegal : ℕ → Bool
-isLegal c = or (isWhite c) (within 32 126 c)
 
 -- whether this byte, itself escaped or not, escapes the next
 unfoldable pub escapes : Bool → ℕ → Bool

@@ -5,7 +5,10 @@ ghost use Prim.Native.Nat.{_≤_};
 ghost use lib.Dec.{eqb};
 ghost use lib.ListN.{length};
 ghost use Rattle.classes.specs.Choice.{pick};
-ghost use Rattle.nameshape.specs.Shape.{isNameByte, isEscapable, isLegal, escapes, mayFollow, divider, bodyNext, bracketNext, nameNext, nameRun, plainRun, mayEnd, isPath, isPort, isText};
+ghost use Rattle.nameshape.specs.Shape.{isNameByte, isEscapable, escapes, mayFollow, divider, bodyNext, bracketNext, nameNext, nameRun, plainRun, mayEnd, isPath, isPort, isText};
+use classes::is_digit;
+use classes::is_legal;
+use classes::is_letter;
 use classes::is_within;
 
 // Where a reader of a name's bytes stands.
@@ -33,25 +36,19 @@ const WRONG: u8 = 9; // no name goes on like this
 fn is_name_byte(byte: u8) -> bool
     ensures { λ r. ⌜ r ≡ isNameByte byte ⌝ }
 {
-    if is_within(65, 90, byte) {
+    if is_letter(byte) {
         return true;
     }
-    if is_within(97, 122, byte) {
+    if is_digit(byte) {
         return true;
     }
-    if is_within(48, 57, byte) {
-        return true;
-    }
-    if byte == 95 {
-        return true;
-    }
-    byte == 36
+    byte == b'_' || byte == b'$'
 }
 
 fn is_escapable(byte: u8) -> bool
     ensures { λ r. ⌜ r ≡ isEscapable byte ⌝ }
 {
-    is_within(33, 126, byte)
+    is_within(0x21, 0x7E, byte)
 }
 
 // The byte of the divider: `/` or `.`.
@@ -88,7 +85,7 @@ fn body_next(slash: bool, state: u8, byte: u8) -> u8
 fn bracket_next(state: u8, byte: u8) -> u8
     ensures { λ r. ⌜ r ≡ bracketNext state byte ⌝ }
 {
-    if is_within(48, 57, byte) {
+    if is_digit(byte) {
         if state == BRACKET {
             return INDEX;
         }
@@ -204,24 +201,6 @@ pub fn is_port(word: &[u8], slash: bool) -> bool
     ensures { λ r. ⌜ r ≡ isPort slash (now (word .entry)) ⌝ }
 {
     may_end(true, name_run(word, slash))
-}
-
-fn is_legal(byte: u8) -> bool
-    ensures { λ r. ⌜ r ≡ isLegal byte ⌝ }
-{
-    if byte == 9 {
-        return true;
-    }
-    if byte == 10 {
-        return true;
-    }
-    if byte == 13 {
-        return true;
-    }
-    if byte == 32 {
-        return true;
-    }
-    is_within(32, 126, byte)
 }
 
 // Whether a backslash has the next byte escaped.

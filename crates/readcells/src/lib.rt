@@ -10,7 +10,7 @@ ghost use Rattle.tables.specs.Pastes.{put};
 ghost use Rattle.readcells.specs.Whole.{TailRead, MoreRead, EndRead};
 ghost use Rattle.readcells.specs.Left.{CellsRead, Finished};
 use tokenforms::Token;
-use tokenforms::token_from;
+use tokens::token_from;
 use grammar::Cell;
 use grammar::Mark;
 use grammar::Hand;

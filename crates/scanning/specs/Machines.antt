@@ -26,7 +26,7 @@ wordStop q k d =
     (pick (eqb k 9) false
     (pick (eqb k 10) false
     (pick (eqb k 8) (commences d)
-    (pick (eqb k 11) (not (within 33 126 d))
+    (pick (eqb k 11) (not (within 0x21 0x7E d))
     (pick (eqb k 4) (eqb q 0) true))))))
 
 unfoldable pub wordNext : ℕ → ℕ → ℕ

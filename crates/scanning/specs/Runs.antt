@@ -1,4 +1,4 @@
--- How far runs of bytes go: plain ones in a word, and white space.
+-- How far runs of bytes go: those of a word, and white space.
 -- Assumes nothing.
 use Prim.Native.Nat.{ℕ, _+_, _≤_, _<_}
 use mathlib.Core.Path.{_≡_}
@@ -14,13 +14,6 @@ use Rattle.scanning.specs.declared.Skipped.{Skipped}
 -- where a word ends that is at i in the state q
 abbrev pub wordFrom : ℕ → List ℕ → ℕ → ℕ
 wordFrom q s i = i + scanLen wordHalts wordGoes q (drop i s)
-
--- from p up to r a word goes on, outside brackets and inside, in the state it is in; at r no plain byte follows
-pub record PlainTo (s : List ℕ) (p r : ℕ) : Type 0 where
-  pub on : p ≤ r
-  pub fits : r ≤ length s
-  pub same : (q : ℕ) → q < 2 → wordFrom q s r ≡ wordFrom q s p
-  pub stop : r < length s → classOf (getD s r 0) ≡ 7 → ⊥
 
 -- from p up to r there is white space; at r no more follows
 pub record WhiteTo (s : List ℕ) (p r : ℕ) : Type 0 where

@@ -6,12 +6,13 @@ ghost use lib.ListN.{length, getD, drop};
 ghost use Rattle.classes.specs.Classes.{classOf};
 ghost use Rattle.scanning.specs.Scan.{scanLen};
 ghost use Rattle.scanning.specs.Machines.{wordHalts, wordEnd, blankStop, modeNext, sinceNext, textStop, closeStop, textNext, textGoes, closeHalts};
-ghost use Rattle.scanning.specs.Runs.{PlainTo, WhiteTo, SkippedTo, commented, bracketed, widthOf};
+ghost use Rattle.scanning.specs.Runs.{WhiteTo, SkippedTo, commented, bracketed, widthOf};
 use classes::class_of;
-use classes::is_within;
+use classes::is_legal;
 use classes::is_plain;
 use classes::is_white;
-use classes::is_legal;
+use classes::is_within;
+use classes::mark_of;
 
 // White space and comments: where in them one stands.
 pub struct Blank {
@@ -32,21 +33,6 @@ pub fn peek(text: &[u8], i: usize) -> u8
     if i < text.len() { text[i] } else { 0 }
 }
 
-// Past the plain bytes from a place on: a word goes on over them, outside brackets and inside.
-pub fn plain_end(text: &[u8], from: usize) -> usize
-    requires { ⌜ from ≤ length (now text) ⌝ }
-    ensures { λ r. ⌜ PlainTo (now (text .entry)) from r ⌝ }
-{
-    let mut i = from;
-    while i < text.len() {
-        if !is_plain(text[i]) {
-            return i;
-        }
-        i += 1;
-    }
-    i
-}
-
 // Whether a word ends before this byte, which is not plain.
 fn word_stop(state: u8, byte: u8, behind: u8) -> bool
     requires { ⌜ (state < 2) × (classOf byte ≡ 7 → ⊥) ⌝ }
@@ -54,7 +40,7 @@ fn word_stop(state: u8, byte: u8, behind: u8) -> bool
 {
     match byte {
         b'/' => behind == b'/' || behind == b'*',
-        b'\\' => !is_within(33, 126, behind),
+        b'\\' => !is_within(0x21, 0x7E, behind),
         b'[' | b']' => false,
         b':' => state == 0,
         _ => true,
@@ -83,28 +69,30 @@ fn word_step(byte: u8) -> usize
     1
 }
 
+// Where the word from a place on ends. Most of its bytes are plain, and go on with it outside brackets and inside.
 pub fn word_end(text: &[u8], from: usize) -> usize
     requires { ⌜ from ≤ length (now text) ⌝ }
     ensures { λ r. ⌜ (r ≡ wordEnd (now (text .entry)) from) × (r ≤ length (now (text .entry))) × (from ≤ r) ⌝ }
 {
     let mut i = from;
     let mut state: u8 = 0;
-    loop {
-        i = plain_end(text, i);
-        if text.len() <= i {
-            return i;
-        }
+    while i < text.len() {
         let byte = text[i];
-        let behind = peek(text, i + 1);
-        if word_stop(state, byte, behind) {
-            return i;
+        if is_plain(byte) {
+            i += 1;
+        } else {
+            let behind = peek(text, i + 1);
+            if word_stop(state, byte, behind) {
+                return i;
+            }
+            state = word_next(state, byte);
+            i += word_step(byte);
         }
-        state = word_next(state, byte);
-        i += word_step(byte);
     }
+    i
 }
 
-// Whether no word goes on from a place.
+// Whether no word goes on from a place: as a rule a mark stands there.
 pub fn ends_word(text: &[u8], place: usize) -> bool
     requires { ⌜ place ≤ length (now text) ⌝ }
     ensures { λ r. ⌜ r ≡ eqb (wordEnd (now (text .entry)) place) place ⌝ }
@@ -113,6 +101,9 @@ pub fn ends_word(text: &[u8], place: usize) -> bool
         return true;
     }
     let byte = text[place];
+    if mark_of(byte) != 0 {
+        return true;
+    }
     if is_plain(byte) {
         return false;
     }
@@ -255,10 +246,7 @@ pub fn skip_blank(text: &[u8], from: usize) -> Skipped
     }
     Skipped {
         place: i,
-        blank: Blank {
-            mode: 0,
-            since: 0,
-        },
+        blank: Blank { mode: 0, since: 0 },
     }
 }
 

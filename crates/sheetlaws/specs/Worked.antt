@@ -13,7 +13,7 @@ use mir.Syntax.{w64}
 use mir.Val.{ofZ}
 use Rattle.classes.specs.Choice.{pick}
 use Rattle.wire.specs.Wire.{be16, be32, be64, beBytes, enc16, enc32}
-use Rattle.nameshape.specs.Shape.{isNameByte, isEscapable, divider, bodyNext, bracketNext, nameNext, nameRun, mayEnd, isPath, isPort, isLegal, escapes, mayFollow, textFrom, isText}
+use Rattle.nameshape.specs.Shape.{isNameByte, isEscapable, divider, bodyNext, bracketNext, nameNext, nameRun, mayEnd, isPath, isPort, escapes, mayFollow, textFrom, isText}
 use Rattle.names.specs.Order.{cmp, cmpNum}
 use Rattle.kinds.specs.Kinds.{table, factsOf, isKind, hasEdge, hasSecond, hasEdge2, isSigned, rowsOf}
 use Rattle.sheetparts.specs.Form.{shapeOk, oneEnd, edgeTop, edgeTop2, secondLeast, secondMost, used, valueOk, roomStep, markStep, kindStep, edgeStep, lenStep, nameStep, valueStep, valuesStep, firstLen, secondLen, Key, cmpKey, keyAt, keyStep, orderStep, arRest, arFields, arStep, arcsStep, pathLen, typeLen, pathStep, inOrderStep, inFields, inStep, insStep, formatStep, headStep, endStep, frontStep, backStep, checkOf}
@@ -79,7 +79,7 @@ spelt =
     }
 
 worked : decode example ≡ sheet spelt
-unfolding checkOf frontStep backStep headStep formatStep markStep roomStep be16 be32 be64 insStep inStep inOrderStep inFields pathStep pathLen typeLen arcsStep endStep arStep orderStep arFields arRest kindStep edgeStep nameStep lenStep valuesStep valueStep valueOk used oneEnd edgeTop edgeTop2 secondLeast secondMost table factsOf isKind hasEdge hasSecond hasEdge2 isSigned rowsOf shapeOk isPath isPort nameRun nameNext bodyNext bracketNext isNameByte isEscapable divider mayEnd isText textFrom mayFollow isLegal escapes keyStep keyAt firstLen secondLen cmpKey cmpNum cmp decode valuesOf arcsAt insAt
+unfolding checkOf frontStep backStep headStep formatStep markStep roomStep be16 be32 be64 insStep inStep inOrderStep inFields pathStep pathLen typeLen arcsStep endStep arStep orderStep arFields arRest kindStep edgeStep nameStep lenStep valuesStep valueStep valueOk used oneEnd edgeTop edgeTop2 secondLeast secondMost table factsOf isKind hasEdge hasSecond hasEdge2 isSigned rowsOf shapeOk isPath isPort nameRun nameNext bodyNext bracketNext isNameByte isEscapable divider mayEnd isText textFrom mayFollow escapes keyStep keyAt firstLen secondLen cmpKey cmpNum cmp decode valuesOf arcsAt insAt
 worked = refl
 
 -- Small sheets: whether they are of the form.
@@ -115,7 +115,7 @@ forms :
     ∷ small 1 0 (instance "" "" []) ∷ small 1 0 (instance "a" "x\\\"y" []) ∷ small 1 0 (instance "a" "x\"y" [])
     ∷ small 1 0 (instance "a" "x\\" []) ∷ small 0 1 (arc 3 0 "a[3].p[3:0]" 0 "" (none [])) ∷ []
     ≡ true ∷ false ∷ false ∷ true ∷ false ∷ true ∷ true ∷ false ∷ false ∷ true ∷ []
-unfolding checkOf frontStep backStep headStep formatStep markStep roomStep be16 be32 be64 insStep inStep inOrderStep inFields pathStep pathLen typeLen arcsStep endStep arStep orderStep arFields arRest kindStep edgeStep nameStep lenStep valuesStep valueStep valueOk used oneEnd edgeTop edgeTop2 secondLeast secondMost table factsOf isKind hasEdge hasSecond hasEdge2 isSigned rowsOf shapeOk isPath isPort nameRun nameNext bodyNext bracketNext isNameByte isEscapable divider mayEnd isText textFrom mayFollow isLegal escapes keyStep keyAt firstLen secondLen cmpKey cmpNum cmp
+unfolding checkOf frontStep backStep headStep formatStep markStep roomStep be16 be32 be64 insStep inStep inOrderStep inFields pathStep pathLen typeLen arcsStep endStep arStep orderStep arFields arRest kindStep edgeStep nameStep lenStep valuesStep valueStep valueOk used oneEnd edgeTop edgeTop2 secondLeast secondMost table factsOf isKind hasEdge hasSecond hasEdge2 isSigned rowsOf shapeOk isPath isPort nameRun nameNext bodyNext bracketNext isNameByte isEscapable divider mayEnd isText textFrom mayFollow escapes keyStep keyAt firstLen secondLen cmpKey cmpNum cmp
 forms = refl
 
 -- PORT has one end and no edge, the others two ends; WIDTH has an edge
@@ -124,7 +124,7 @@ ends :
     ∷ small 0 1 (arc 1 8 "p" 0 "q" (none [])) ∷ small 0 1 (arc 1 9 "p" 0 "q" (none [])) ∷ small 0 1 (arc 1 0 "p" 1 "q" (none []))
     ∷ small 0 1 (arc 19 2 "p" 0 "" (none [])) ∷ small 0 1 (arc 4 0 "p" 0 "q" (none [])) ∷ []
     ≡ false ∷ false ∷ false ∷ true ∷ false ∷ false ∷ true ∷ false ∷ []
-unfolding checkOf frontStep backStep headStep formatStep markStep roomStep be16 be32 be64 insStep inStep inOrderStep inFields pathStep pathLen typeLen arcsStep endStep arStep orderStep arFields arRest kindStep edgeStep nameStep lenStep valuesStep valueStep valueOk used oneEnd edgeTop edgeTop2 secondLeast secondMost table factsOf isKind hasEdge hasSecond hasEdge2 isSigned rowsOf shapeOk isPath isPort nameRun nameNext bodyNext bracketNext isNameByte isEscapable divider mayEnd isText textFrom mayFollow isLegal escapes keyStep keyAt firstLen secondLen cmpKey cmpNum cmp
+unfolding checkOf frontStep backStep headStep formatStep markStep roomStep be16 be32 be64 insStep inStep inOrderStep inFields pathStep pathLen typeLen arcsStep endStep arStep orderStep arFields arRest kindStep edgeStep nameStep lenStep valuesStep valueStep valueOk used oneEnd edgeTop edgeTop2 secondLeast secondMost table factsOf isKind hasEdge hasSecond hasEdge2 isSigned rowsOf shapeOk isPath isPort nameRun nameNext bodyNext bracketNext isNameByte isEscapable divider mayEnd isText textFrom mayFollow escapes keyStep keyAt firstLen secondLen cmpKey cmpNum cmp
 ends = refl
 
 -- strictly rising: instances by path, arcs by their key
@@ -133,7 +133,7 @@ rising :
     ∷ small 2 0 (instance "b" "T" (instance "a" "T" [])) ∷ small 0 2 (arc 3 0 "p" 0 "" (none (arc 3 0 "q" 0 "" (none []))))
     ∷ small 0 2 (arc 3 0 "p" 0 "" (none (arc 3 0 "p" 0 "" (none [])))) ∷ small 0 2 (arc 3 0 "q" 0 "" (none (arc 1 0 "p" 0 "q" (none [])))) ∷ []
     ≡ true ∷ false ∷ false ∷ true ∷ false ∷ false ∷ []
-unfolding checkOf frontStep backStep headStep formatStep markStep roomStep be16 be32 be64 insStep inStep inOrderStep inFields pathStep pathLen typeLen arcsStep endStep arStep orderStep arFields arRest kindStep edgeStep nameStep lenStep valuesStep valueStep valueOk used oneEnd edgeTop edgeTop2 secondLeast secondMost table factsOf isKind hasEdge hasSecond hasEdge2 isSigned rowsOf shapeOk isPath isPort nameRun nameNext bodyNext bracketNext isNameByte isEscapable divider mayEnd isText textFrom mayFollow isLegal escapes keyStep keyAt firstLen secondLen cmpKey cmpNum cmp
+unfolding checkOf frontStep backStep headStep formatStep markStep roomStep be16 be32 be64 insStep inStep inOrderStep inFields pathStep pathLen typeLen arcsStep endStep arStep orderStep arFields arRest kindStep edgeStep nameStep lenStep valuesStep valueStep valueOk used oneEnd edgeTop edgeTop2 secondLeast secondMost table factsOf isKind hasEdge hasSecond hasEdge2 isSigned rowsOf shapeOk isPath isPort nameRun nameNext bodyNext bracketNext isNameByte isEscapable divider mayEnd isText textFrom mayFollow escapes keyStep keyAt firstLen secondLen cmpKey cmpNum cmp
 rising = refl
 
 -- within 10^15 either way, not below zero in SETUP, its other rows empty
@@ -143,5 +143,5 @@ ranges :
     ∷ small 0 1 (arc 11 0 "p" 0 "q" (times 3 (pos 7) (times 15 least []))) ∷ small 0 1 (arc 11 0 "p" 0 "q" (times 3 (negsuc 7) (times 15 least [])))
     ∷ small 0 1 (arc 11 0 "p" 0 "q" (times 4 (pos 7) (times 14 least []))) ∷ []
     ≡ true ∷ false ∷ true ∷ false ∷ true ∷ false ∷ false ∷ []
-unfolding checkOf frontStep backStep headStep formatStep markStep roomStep be16 be32 be64 insStep inStep inOrderStep inFields pathStep pathLen typeLen arcsStep endStep arStep orderStep arFields arRest kindStep edgeStep nameStep lenStep valuesStep valueStep valueOk used oneEnd edgeTop edgeTop2 secondLeast secondMost table factsOf isKind hasEdge hasSecond hasEdge2 isSigned rowsOf shapeOk isPath isPort nameRun nameNext bodyNext bracketNext isNameByte isEscapable divider mayEnd isText textFrom mayFollow isLegal escapes keyStep keyAt firstLen secondLen cmpKey cmpNum cmp
+unfolding checkOf frontStep backStep headStep formatStep markStep roomStep be16 be32 be64 insStep inStep inOrderStep inFields pathStep pathLen typeLen arcsStep endStep arStep orderStep arFields arRest kindStep edgeStep nameStep lenStep valuesStep valueStep valueOk used oneEnd edgeTop edgeTop2 secondLeast secondMost table factsOf isKind hasEdge hasSecond hasEdge2 isSigned rowsOf shapeOk isPath isPort nameRun nameNext bodyNext bracketNext isNameByte isEscapable divider mayEnd isText textFrom mayFollow escapes keyStep keyAt firstLen secondLen cmpKey cmpNum cmp
 ranges = refl

@@ -9,16 +9,20 @@ ghost use Rattle.numbershape.specs.Fast.{Small};
 ghost use Rattle.numbershape.specs.Steps.{stop, figures, stepOf, fold, start, answerOf};
 ghost use Rattle.times.specs.Standing.{timeTo, plainly};
 ghost use Rattle.times.specs.Plain.{plainOf};
-use numbershape::Number;
-use numbershape::Found;
 use numbershape::Digits;
+use numbershape::Found;
+use numbershape::Number;
 
 // One more than the 10^15 femtoseconds of the longest time: where numbers are stopped, since all beyond are alike.
 const STOP: u64 = 1_000_000_000_000_001;
 
 // Digits, with or without a point and digits behind it: their number, stopped at 10^15 + 1, how many stand behind the point, and where they end.
 enum Plain {
-    Value { value: u64, fraction: usize, end: usize },
+    Value {
+        value: u64,
+        fraction: usize,
+        end: usize,
+    },
     Other,
 }
 
@@ -72,11 +76,32 @@ fn read_digits(text: &[u8], keep: usize) -> Digits
     digits
 }
 
-// value * 10^n, stopped at 10^15 + 1: at most 16 turns, whatever n is.
+// 10^n, where n is small.
+fn ten_to(n: usize) -> u64
+    requires { ⌜ n ≤ 6 ⌝ }
+    ensures { λ r. ⌜ r ≡ 10 ^ n ⌝ }
+{
+    match n {
+        0 => 1,
+        1 => 10,
+        2 => 100,
+        3 => 1_000,
+        4 => 10_000,
+        5 => 100_000,
+        _ => 1_000_000,
+    }
+}
+
+// value * 10^n, stopped at 10^15 + 1: as a rule one product that does not reach it; else at most 16 turns, whatever n is.
 fn raise(value: u64, n: usize) -> u64
     requires { ⌜ value ≤ stop ⌝ }
     ensures { λ r. ⌜ (r ≡ min (value * 10 ^ n) stop) × (r ≤ stop) ⌝ }
 {
+    if value < 1_000_000_000 {
+        if n <= 6 {
+            return value * ten_to(n);
+        }
+    }
     if value == 0 {
         return 0;
     }
@@ -248,7 +273,12 @@ pub fn read_number(word: &[u8], signed: bool, scale: u8) -> Number
     ensures { λ r. ⌜ r ≡ numberOf signed scale (now (word .entry)) ⌝ }
 {
     let start = numbershape::count_lead(word, signed);
-    let Plain::Value { value, fraction, end } = scan_plain(word, start) else {
+    let Plain::Value {
+        value,
+        fraction,
+        end,
+    } = scan_plain(word, start)
+    else {
         return read_any(word, signed, scale);
     };
     if end < word.len() {
@@ -258,7 +288,10 @@ pub fn read_number(word: &[u8], signed: bool, scale: u8) -> Number
     if unit < fraction {
         return read_any(word, signed, scale);
     }
-    finish(numbershape::is_minus(word, signed), raise(value, unit - fraction))
+    finish(
+        numbershape::is_minus(word, signed),
+        raise(value, unit - fraction),
+    )
 }
 
 // A number's time, with where it ends.
@@ -279,7 +312,12 @@ pub fn read_plain(text: &[u8], from: usize, scale: u8) -> Plainly
     requires { ⌜ from ≤ length (now text) ⌝ }
     ensures { λ r. ⌜ r ≡ plainly scale (now (text .entry)) from ⌝ }
 {
-    let Plain::Value { value, fraction, end } = scan_plain(text, from) else {
+    let Plain::Value {
+        value,
+        fraction,
+        end,
+    } = scan_plain(text, from)
+    else {
         return Plainly::Other;
     };
     if is_point(text, end) {

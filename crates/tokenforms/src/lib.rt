@@ -180,8 +180,8 @@ fn token_here(text: &[u8], i: usize) -> Token
     other_here(text, i)
 }
 
-// The token from a place on.
-pub fn token_from(text: &[u8], from: usize) -> Token
+// The token from a place on, of whatever form.
+pub fn token_any(text: &[u8], from: usize) -> Token
     requires { ⌜ from ≤ length (now text) ⌝ }
     ensures { λ r. ⌜ r ≡ tokenAt (now (text .entry)) from ⌝ }
 {

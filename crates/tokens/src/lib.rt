@@ -5,8 +5,11 @@ ghost use lib.ListN.{length};
 ghost use Rattle.tokenforms.specs.Tokens.{tokenAt};
 ghost use Rattle.tokens.specs.Stream.{stream, count, endOf};
 ghost use Rattle.tokens.specs.Quick.{Signed};
+use classes::is_white;
+use classes::mark_of;
+use scanning::word_end;
 use tokenforms::Token;
-use tokenforms::token_from;
+use tokenforms::token_any;
 
 // The token from a place on. Behind the text's end there is none: its end is met there, wherever that is.
 pub fn next_token(text: &[u8], from: usize) -> Token
@@ -21,7 +24,51 @@ pub fn next_token(text: &[u8], from: usize) -> Token
     token_from(text, from)
 }
 
-// Where the token from a place on ends, or 0 where there is none: as a rule it is a mark or a word.
+// The token from a place on, within the text: as a rule it is a mark or a word. Any other is made anew, so that it is not copied on its way out.
+pub fn token_from(text: &[u8], from: usize) -> Token
+    requires { ⌜ from ≤ length (now text) ⌝ }
+    ensures { λ r. ⌜ r ≡ tokenAt (now (text .entry)) from ⌝ }
+{
+    let sign = mark_from(text, from);
+    let start = sign.place;
+    if 2 <= sign.kind {
+        return Token::Got {
+            kind: sign.kind,
+            start: start,
+            end: start + 1,
+            long: false,
+        };
+    }
+    let end = word_end(text, start);
+    if start < end {
+        return Token::Got {
+            kind: 7,
+            start: start,
+            end: end,
+            long: 1024 < end - start,
+        };
+    }
+    let other = token_any(text, start);
+    match other {
+        Token::Stop { number, place } => Token::Stop {
+            number: number,
+            place: place,
+        },
+        Token::Got {
+            kind,
+            start: first,
+            end: behind,
+            long,
+        } => Token::Got {
+            kind: kind,
+            start: first,
+            end: behind,
+            long: long,
+        },
+    }
+}
+
+// Where the token from a place on ends, or 0 where there is none. No token is made where it is a mark or a word.
 fn token_end(text: &[u8], from: usize) -> usize
     requires { ⌜ from ≤ length (now text) ⌝ }
     ensures { λ r. ⌜ r ≡ endOf (tokenAt (now (text .entry)) from) ⌝ }
@@ -31,11 +78,11 @@ fn token_end(text: &[u8], from: usize) -> usize
     if 2 <= sign.kind {
         return place + 1;
     }
-    let e = scanning::word_end(text, place);
+    let e = word_end(text, place);
     if place < e {
         return e;
     }
-    let t = token_from(text, place);
+    let t = token_any(text, place);
     let Token::Got {
         kind: _,
         start: _,
@@ -74,12 +121,16 @@ pub fn mark_from(text: &[u8], from: usize) -> Sign
     requires { ⌜ from ≤ length (now text) ⌝ }
     ensures { λ r. ⌜ Signed (now (text .entry)) from r ⌝ }
 {
-    let i = scanning::white_end(text, from);
-    if i < text.len() {
-        return Sign {
-            kind: classes::mark_of(text[i]),
-            place: i,
-        };
+    let mut i = from;
+    while i < text.len() {
+        let byte = text[i];
+        if !is_white(byte) {
+            return Sign {
+                kind: mark_of(byte),
+                place: i,
+            };
+        }
+        i += 1;
     }
     Sign { kind: 0, place: i }
 }

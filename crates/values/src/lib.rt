@@ -11,7 +11,7 @@ ghost use Rattle.grammar.specs.Meaning.{wrongly};
 ghost use Rattle.rules.specs.Contracts.{refusalOf, NumberHere, Marked, Reads, ReadsValue, OpensValue, ReadsValues, OpensValues};
 ghost use Rattle.values.specs.Parts.{Sees, LeadRead, FirstRead, MiddleRead};
 use tokenforms::Token;
-use tokenforms::token_from;
+use tokens::token_from;
 use tokens::mark_from;
 use words::key_of;
 use numbershape::Number;

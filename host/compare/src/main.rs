@@ -3,6 +3,7 @@
 //! Each seed is a case; both programs get it, and everything they leave must be the same: the answer, every word of every
 //! table (what stood there before included), every byte of every sheet. A difference is made small and printed.
 
+mod bytes;
 mod large;
 mod left;
 mod show;
@@ -42,7 +43,7 @@ fn main() -> ExitCode {
     }
 }
 
-/// Compares on so many seeds, then on the large cases; whether there was no difference.
+/// Compares on so many seeds, on every byte at every kind of place, then on the large cases; whether there was no difference.
 fn compare(count: u64, from: u64) -> bool {
     let started = Instant::now();
     let mut tally = Tally::default();
@@ -55,6 +56,13 @@ fn compare(count: u64, from: u64) -> bool {
             return false;
         }
     }
+    for case in bytes::cases() {
+        if let Some(part) = tally.judge(&case) {
+            println!("a file with other bytes at one place differs in {part}");
+            show::print_case(&case);
+            return false;
+        }
+    }
     for (name, case) in large::cases() {
         if let Some(part) = tally.judge(&case) {
             println!("the large case \"{name}\" differs in {part}");
@@ -63,7 +71,7 @@ fn compare(count: u64, from: u64) -> bool {
     }
     tally.print();
     println!(
-        "{count} cases from seed {from}, and the large ones, in {:.1} s: no difference",
+        "{count} cases from seed {from}, every byte at each kind of place, and the large ones, in {:.1} s: no difference",
         started.elapsed().as_secs_f64()
     );
     true

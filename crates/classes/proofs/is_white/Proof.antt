@@ -1,31 +1,40 @@
 -- `classes::is_white` meets its contract.
 -- Assumes nothing.
-use mathlib.Core.Path.{refl}
-use mathlib.Core.List.{[], _∷_}
-use Prim.Native.Nat.{ℕ}
-use native.Mathlib.Omega.{arith}
-use mathlib.Core.Bool.{true, false}
+use Prim.Native.Nat.{ℕ, _<_}
+use mathlib.Core.Path.{_≡_, refl}
+use mathlib.Core.Bool.{Bool}
 use lib.Dec.{eqb}
-use Rattle.classes.specs.Classes.{classOf}
-use Rattle.classes.proofs.Keys.{keyed, ranged}
+use borrow.Author.Needs.{needs}
+use borrow.Author.Tests.{eq-eqb, ne-eqb}
+use Rattle.classes.specs.Choice.{or}
+use Rattle.classes.specs.Classes.{is, fromTo, classOf}
+use Rattle.classes.specs.ClassLaws.{on-bytes}
 use Rattle.classes.proofs.is_white.Statement.{statement}
 use Rattle.classes.proofs.is_white.Tie as tie
 
-returns : tie.Need-returns
+-- the questions in the order in which they are asked
+abbrev asked : ℕ → Bool
+asked b = or (is " " b) (or (fromTo "\t" "\n" b) (is "\r" b))
+
+white-asked : (b : ℕ) → b < 256 → eqb (classOf b) 1 ≡ asked b
 unfolding classOf
-returns c = ranged (λ (b : ℕ). eqb (classOf b) 1) false ((13 ∷ 32 ∷ []) ∷ []) 0 9 refl _ (c .before .match .rest) (omega arith) (omega arith)
+white-asked = on-bytes (λ b. eqb (classOf b) 1) asked refl
+
+returns : tie.Need-returns
+returns c = rw (white-asked (c .before .args .byte) (search needs), eq-eqb _ _ (c .if1 .taken))
+
+is-within-requires : tie.Need-is-within-requires
+is-within-requires c κs = search needs
 
 returns-2 : tie.Need-returns-2
-unfolding classOf
-returns-2 c = ranged (λ (b : ℕ). eqb (classOf b) 1) false ((13 ∷ 32 ∷ []) ∷ []) 11 245 refl _ (c .before .before .match .rest) (omega arith) (omega arith)
+returns-2 c =
+    let u = c .before .before in
+    rw (white-asked (u .before .args .byte) (search needs), ne-eqb _ _ (u .if1 .left), ← c .before .is-within .ensures, c .if2 .taken)
 
 returns-3 : tie.Need-returns-3
-unfolding classOf
-returns-3 c = keyed (λ (b : ℕ). eqb (classOf b) 1) true (13 ∷ 32 ∷ []) refl _ (c .match .keys1)
-
-returns-4 : tie.Need-returns-4
-unfolding classOf
-returns-4 c = ranged (λ (b : ℕ). eqb (classOf b) 1) true ((13 ∷ 32 ∷ []) ∷ []) 9 2 refl _ (c .before .before .match .rest) (omega arith) (omega arith)
+returns-3 c =
+    let u = c .before .before in
+    rw (white-asked (u .before .args .byte) (search needs), ne-eqb _ _ (u .if1 .left), ← c .before .is-within .ensures, c .if2 .left)
 
 pub is-white-spec : {M : Type 1} → statement M
-is-white-spec = tie.close (tie.spec returns returns-2 returns-3 returns-4)
+is-white-spec = tie.close (tie.spec returns is-within-requires returns-2 returns-3)

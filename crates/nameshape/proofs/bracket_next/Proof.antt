@@ -6,18 +6,18 @@ use borrow.Author.Needs.{needs}
 use Rattle.nameshape.proofs.bracket_next.Statement.{statement}
 use Rattle.nameshape.proofs.bracket_next.Tie as tie
 
-is-within-requires : tie.Need-is-within-requires
-is-within-requires c κs = search needs
+is-digit-requires : tie.Need-is-digit-requires
+is-digit-requires c κs = search needs
 
 returns : tie.Need-returns
 unfolding bracketNext
-returns c = rw (← c .before .before .is-within .ensures, c .before .if1 .taken, eq-eqb _ _ (c .if2 .taken))
+returns c = rw (← c .before .before .is-digit .ensures, c .before .if1 .taken, eq-eqb _ _ (c .if2 .taken))
 
 returns-2 : tie.Need-returns-2
 unfolding bracketNext
 returns-2 c =
     rw (
-      ← c .before .before .before .is-within .ensures,
+      ← c .before .before .before .is-digit .ensures,
       c .before .before .if1 .taken,
       ne-eqb _ _ (c .before .if2 .left),
       eq-eqb _ _
@@ -28,7 +28,7 @@ returns-3 : tie.Need-returns-3
 unfolding bracketNext
 returns-3 c =
     rw (
-      ← c .before .before .before .is-within .ensures,
+      ← c .before .before .before .is-digit .ensures,
       c .before .before .if1 .taken,
       ne-eqb _ _ (c .before .if2 .left),
       ne-eqb _ _
@@ -39,7 +39,7 @@ returns-4 : tie.Need-returns-4
 unfolding bracketNext
 returns-4 c =
     rw (
-      ← c .before .before .before .is-within .ensures,
+      ← c .before .before .before .is-digit .ensures,
       c .before .before .if1 .left,
       eq-eqb _ _ (c .before .if4 .taken),
       eq-eqb _ _
@@ -50,7 +50,7 @@ returns-5 : tie.Need-returns-5
 unfolding bracketNext
 returns-5 c =
     rw (
-      ← c .before .before .before .before .is-within .ensures,
+      ← c .before .before .before .before .is-digit .ensures,
       c .before .before .before .if1 .left,
       eq-eqb _ _
           (c .before .before .if4 .taken),
@@ -62,7 +62,7 @@ returns-6 : tie.Need-returns-6
 unfolding bracketNext
 returns-6 c =
     rw (
-      ← c .before .before .before .before .is-within .ensures,
+      ← c .before .before .before .before .is-digit .ensures,
       c .before .before .before .if1 .left,
       eq-eqb _ _
           (c .before .before .if4 .taken),
@@ -74,7 +74,7 @@ returns-7 : tie.Need-returns-7
 unfolding bracketNext
 returns-7 c =
     rw (
-      ← c .before .before .before .before .is-within .ensures,
+      ← c .before .before .before .before .is-digit .ensures,
       c .before .before .before .if1 .left,
       ne-eqb _ _
           (c .before .before .if4 .left),
@@ -86,7 +86,7 @@ returns-8 : tie.Need-returns-8
 unfolding bracketNext
 returns-8 c =
     rw (
-      ← c .before .before .before .before .is-within .ensures,
+      ← c .before .before .before .before .is-digit .ensures,
       c .before .before .before .if1 .left,
       ne-eqb _ _
           (c .before .before .if4 .left),
@@ -98,7 +98,7 @@ returns-9 : tie.Need-returns-9
 unfolding bracketNext
 returns-9 c =
     rw (
-      ← c .before .before .before .is-within .ensures,
+      ← c .before .before .before .is-digit .ensures,
       c .before .before .if1 .left,
       ne-eqb _ _ (c .before .if4 .left),
       ne-eqb _ _
@@ -109,7 +109,7 @@ pub bracket-next-spec : {M : Type 1} → statement M
 bracket-next-spec =
     tie.close
     (tie.spec
-    is-within-requires
+    is-digit-requires
     returns
     returns-2
     returns-3

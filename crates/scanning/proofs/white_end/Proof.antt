@@ -2,15 +2,14 @@
 -- Assumes nothing.
 use Prim.Native.Nat.{_≤_, _+_, _-_}
 use native.Mathlib.Omega.{arith}
-use mathlib.Core.Path.{_≡_, sym, _∙_, ap}
+use mathlib.Core.Path.{_≡_, sym, _∙_}
 use denote.Ref.{now}
-use lib.ListN.{length, drop, getD}
+use lib.ListN.{length, getD}
 use borrow.Author.Needs.{needs}
 use borrow.Author.Tests.{eqb-true, eqb-false, not-true, not-false}
 use Rattle.classes.specs.Classes.{classOf}
-use Rattle.scanning.specs.declared.Blank.{Blank}
-use Rattle.scanning.specs.Scan.{scanLen, scanSt, goes-on, goes-onSt}
-use Rattle.scanning.specs.Machines.{blankHalts, blankGoes, outside, white-on, white-same, blankEnd, blankAt}
+use Rattle.scanning.specs.Machines.{blankEnd, blankAt}
+use Rattle.scanning.specs.RunLaws.{white-goes}
 use Rattle.scanning.proofs.white_end.Statement.{statement}
 use Rattle.scanning.proofs.white_end.Tie as tie
 
@@ -46,13 +45,8 @@ loop-again c =
     let l = c .before .before .before .before .loop in
     let s = now (c .before .before .before .before .before .before .args .text) in
     let k = eqb-true (classOf (getD s (l .i) 0)) 1 (sym (c .before .is-white .ensures) ∙ not-false _ (c .if1 .left)) in
-    let n = sym (white-same (getD s (l .i) 0) (getD s (l .i + 1) 0) k) in
-    let h = white-on (getD s (l .i) 0) (getD s (l .i + 1) 0) k in (
-      search needs,
-      search needs,
-      ap (λ (q : Blank). l .i + 1 + scanLen blankHalts blankGoes q (drop (l .i + 1) s)) n ∙ goes-on blankHalts blankGoes s outside (l .i) (search needs) h ∙ l .inv .2,
-      ap (λ (q : Blank). scanSt blankHalts blankGoes q (drop (l .i + 1) s)) n ∙ goes-onSt blankHalts blankGoes s outside (l .i) (search needs) h ∙ l .inv .3,
-    )
+    let w = white-goes s (l .i) (search needs) k in
+    (search needs, search needs, w .0 ∙ l .inv .2, w .1 ∙ l .inv .3)
 
 returns-2 : tie.Need-returns-2 Inv-loop μ-loop
 returns-2 c =

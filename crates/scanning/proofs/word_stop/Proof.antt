@@ -47,8 +47,14 @@ returns-6 c =
     let a = c .before .args in
     let p = c .before .pre in
     let r = c .match .rest in
-    rw (halts-by (a .state) (a .byte) (a .behind) (p .0) (p .1), ne-eqb (a .byte) 91 (λ e. r .0 .1 (inl e)), ne-eqb (a .byte) 93 (λ e. r .0 .1 (inr e)),
-      ne-eqb (a .byte) 47 (r .0 .0 .0 .1), ne-eqb (a .byte) 92 (r .0 .0 .1), ne-eqb (a .byte) 58 (r .1))
+    rw (
+      halts-by (a .state) (a .byte) (a .behind) (p .0) (p .1),
+      ne-eqb (a .byte) 91 (λ e. r .0 .1 (inl e)),
+      ne-eqb (a .byte) 93 (λ e. r .0 .1 (inr e)),
+      ne-eqb (a .byte) 47 (r .0 .0 .0 .1),
+      ne-eqb (a .byte) 92 (r .0 .0 .1),
+      ne-eqb (a .byte) 58 (r .1),
+    )
 
 pub word-stop-spec : {M : Type 1} → statement M
 word-stop-spec =

@@ -38,14 +38,27 @@ single-requires-2 c κs = search needs
 returns-4 : tie.Need-returns-4
 unfolding tokenOf
 returns-4 c =
-    rw (lt-leb _ _ (c .before .before .before .before .before .before .before .before .pre .0), ← c .before .before .before .before .before .class-of .ensures, ne-eqb _ 0 (c .before .before .before .before .if1 .left), lt-leb _ 5 (c .before .before .before .if2 .left), ne-eqb _ 6 (c .before .before .if3 .left),
-      eq-eqb _ 12 (c .before .if4 .taken)) (c .single2 .ensures)
+    rw (
+      lt-leb _ _ (c .before .before .before .before .before .before .before .before .pre .0),
+      ← c .before .before .before .before .before .class-of .ensures,
+      ne-eqb _ 0 (c .before .before .before .before .if1 .left),
+      lt-leb _ 5 (c .before .before .before .if2 .left),
+      ne-eqb _ 6 (c .before .before .if3 .left),
+      eq-eqb _ 12 (c .before .if4 .taken),
+    ) (c .single2 .ensures)
 
 returns-5 : tie.Need-returns-5
 unfolding tokenOf
 returns-5 c =
-    rw (lt-leb _ _ (c .before .before .before .before .before .before .before .pre .0), ← c .before .before .before .before .class-of .ensures, ne-eqb _ 0 (c .before .before .before .if1 .left), lt-leb _ 5 (c .before .before .if2 .left), ne-eqb _ 6 (c .before .if3 .left),
-      ne-eqb _ 12 (c .if4 .left), le-leb _ _ (c .before .before .before .before .before .before .before .pre .1))
+    rw (
+      lt-leb _ _ (c .before .before .before .before .before .before .before .pre .0),
+      ← c .before .before .before .before .class-of .ensures,
+      ne-eqb _ 0 (c .before .before .before .if1 .left),
+      lt-leb _ 5 (c .before .before .if2 .left),
+      ne-eqb _ 6 (c .before .if3 .left),
+      ne-eqb _ 12 (c .if4 .left),
+      le-leb _ _ (c .before .before .before .before .before .before .before .pre .1),
+    )
 
 pub other-here-spec : {M : Type 1} → statement M
 other-here-spec =

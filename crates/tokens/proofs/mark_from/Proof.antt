@@ -1,36 +1,74 @@
--- `tokens::mark_from` meets its contract.
+-- `tokens::mark_from` meets its contract: behind each byte of white space the token is the same.
 -- Assumes nothing.
+use Prim.Native.Nat.{_≤_, _-_}
 use native.Mathlib.Nat.{not-suc-le-zero}
-use mathlib.Core.Path.{sym, _∙_}
+use mathlib.Core.Path.{_≡_, sym, _∙_}
+use lib.ListN.{length, getD}
 use denote.Ref.{now}
 use borrow.Author.Needs.{needs}
+use borrow.Author.Tests.{eqb-true, not-false}
+use Rattle.classes.specs.Classes.{classOf}
+use Rattle.scanning.specs.RunLaws.{white-goes}
+use Rattle.tokenforms.specs.Tokens.{tokenAt}
 use Rattle.tokens.specs.Quick.{white-token, mark-token}
 use Rattle.tokens.proofs.mark_from.Statement.{statement}
 use Rattle.tokens.proofs.mark_from.Tie as tie
 
-white-end-requires : tie.Need-white-end-requires
-white-end-requires c κs = search needs
+abbrev Inv-loop : tie.InvT-loop
+Inv-loop s p i₀ i = (i ≤ length s) × (tokenAt s i ≡ tokenAt s p)
 
-shared-slice-read-mark-of : tie.Need-shared-slice-read-mark-of
-shared-slice-read-mark-of c = search needs
+abbrev μ-loop : tie.MeasureT-loop
+μ-loop s p i₀ i = length s - i
 
-mark-of-requires : tie.Need-mark-of-requires
+loop-holds : tie.Need-loop-holds Inv-loop μ-loop
+loop-holds c = search needs
+
+shared-slice-read-byte : tie.Need-shared-slice-read-byte Inv-loop μ-loop
+shared-slice-read-byte c = search needs
+
+is-white-requires : tie.Need-is-white-requires Inv-loop μ-loop
+is-white-requires c κs = search needs
+
+mark-of-requires : tie.Need-mark-of-requires Inv-loop μ-loop
 mark-of-requires c κs = search needs
 
-returns : tie.Need-returns
+returns : tie.Need-returns Inv-loop μ-loop
 returns c =
-    let args = c .before .before .before .before .before .args in
-    let white = c .before .before .before .white-end in
-    let inside = c .before .before .if1 .taken in
-    let s = now (args .text) in
-    let w = white-token s (white .result) (args .from) (white .ensures .ends) (white .ensures .state) in
-    (w, white .ensures .fits, λ l. (sym w ∙ mark-token s (white .result) (c .mark-of .result) inside (sym (c .mark-of .ensures)) l, search needs))
+    let l = c .before .before .before .before .before .loop in
+    let s = now (c .before .before .before .before .before .before .before .args .text) in
+    (l .inv .1, l .inv .0, λ k. (sym (l .inv .1) ∙ mark-token s (l .i) (c .mark-of .result) (search needs) (sym (c .mark-of .ensures)) k, search needs))
 
-returns-2 : tie.Need-returns-2
+add-i : tie.Need-add-i Inv-loop μ-loop
+add-i c = search needs
+
+loop-less : tie.Need-loop-less Inv-loop μ-loop
+loop-less c = search needs
+
+loop-again : tie.Need-loop-again Inv-loop μ-loop
+loop-again c =
+    let l = c .before .before .before .before .loop in
+    let s = now (c .before .before .before .before .before .before .args .text) in
+    let k = eqb-true (classOf (getD s (l .i) 0)) 1 (sym (c .before .is-white .ensures) ∙ not-false _ (c .if1 .left)) in
+    let w = white-goes s (l .i) (search needs) k in
+    (search needs, white-token s _ _ (w .0) (w .1) ∙ l .inv .1)
+
+returns-2 : tie.Need-returns-2 Inv-loop μ-loop
 returns-2 c =
-    let args = c .before .before .before .args in
-    let white = c .before .white-end in
-    (white-token (now (args .text)) (white .result) (args .from) (white .ensures .ends) (white .ensures .state), white .ensures .fits, λ h. absurd (not-suc-le-zero h))
+    let l = c .before .loop in
+    (l .inv .1, l .inv .0, λ h. absurd (not-suc-le-zero h))
 
 pub mark-from-spec : {M : Type 1} → statement M
-mark-from-spec = tie.close (tie.spec white-end-requires shared-slice-read-mark-of mark-of-requires returns returns-2)
+mark-from-spec =
+    tie.close
+    (tie.spec
+    Inv-loop
+    μ-loop
+    loop-holds
+    shared-slice-read-byte
+    is-white-requires
+    mark-of-requires
+    returns
+    add-i
+    loop-less
+    loop-again
+    returns-2)

@@ -1,10 +1,10 @@
--- `tokenforms::token_from` meets its contract.
+-- `tokenforms::token_any` meets its contract.
 -- Assumes nothing.
 use borrow.Author.Tests.{le-leb, lt-leb, eq-eqb, ne-eqb}
 use Rattle.tokenforms.specs.Tokens.{behind, tokenAt}
 use borrow.Author.Needs.{needs}
-use Rattle.tokenforms.proofs.token_from.Statement.{statement}
-use Rattle.tokenforms.proofs.token_from.Tie as tie
+use Rattle.tokenforms.proofs.token_any.Statement.{statement}
+use Rattle.tokenforms.proofs.token_any.Tie as tie
 
 skip-blank-requires : tie.Need-skip-blank-requires
 skip-blank-requires c κs = search needs
@@ -38,8 +38,8 @@ returns-5 : tie.Need-returns-5
 unfolding behind tokenAt
 returns-5 c = simp (lt-leb _ _ (c .if4 .left), ← c .before .block-end .ensures, ne-eqb _ _ (c .before .before .if2 .left), ne-eqb _ _ (c .before .before .before .if1 .left), ← c .before .before .before .before .before .skip-blank .ensures .ends, ← c .before .before .before .before .before .skip-blank .ensures .state)
 
-pub token-from-spec : {M : Type 1} → statement M
-token-from-spec =
+pub token-any-spec : {M : Type 1} → statement M
+token-any-spec =
     tie.close
     (tie.spec
     skip-blank-requires
