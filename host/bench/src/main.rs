@@ -1,10 +1,13 @@
 //! The benchmark: the proved functions, through the static library, against the second program and the plainest possible
-//! byte loop, all in the same run. Prints Markdown tables; the best of some runs counts.
+//! byte loop, all in the same run. Prints Markdown tables; the best of some runs counts. `bench --text SIZE` prints the text of
+//! the first rows instead, of at least so many bytes, for other measurements.
 
 mod measure;
 mod text;
 
 use std::hint::black_box;
+use std::io::Write;
+use std::process::ExitCode;
 
 use command::blank::blank;
 use command::rooms::{Rooms, Wanted};
@@ -22,7 +25,26 @@ const TOP_WIRES: [usize; 4] = [500, 1_000, 2_000, 10_000];
 /// How often the four times are taken of which the shares are made.
 const SHARE_ROUNDS: usize = 30;
 
-fn main() {
+fn main() -> ExitCode {
+    let arguments: Vec<String> = std::env::args().skip(1).collect();
+    let words: Vec<&str> = arguments.iter().map(String::as_str).collect();
+    match (words.as_slice(), words.get(1).map(|size| size.parse())) {
+        ([], _) => print_all(),
+        (["--text", _], Some(Ok(size))) => {
+            if let Err(error) = std::io::stdout().write_all(&text::board(size)) {
+                eprintln!("bench: {error}");
+                return ExitCode::from(2);
+            }
+        }
+        _ => {
+            eprintln!("usage: bench [--text SIZE]");
+            return ExitCode::from(2);
+        }
+    }
+    ExitCode::SUCCESS
+}
+
+fn print_all() {
     let texts: Vec<Vec<u8>> = [1_000_000, 4_000_000, 10_000_000].map(text::board).to_vec();
     print_table("Tokens", &texts.iter().map(|text| tokens_row(text)).collect::<Vec<_>>());
     if !proved::has(Functions::Read) {
