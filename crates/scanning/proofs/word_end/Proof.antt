@@ -63,7 +63,7 @@ returns c =
     (sym (stops wordHalts wordGoes s (l .state) (l .i) (search needs) halts) ∙ l .inv .3, l .inv .1, l .inv .0)
 
 word-next-requires : tie.Need-word-next-requires Inv-loop μ-loop
-word-next-requires c κs = c .before .before .before .before .before .before .before .loop .inv .2
+word-next-requires c κs = search needs
 
 word-step-requires : tie.Need-word-step-requires Inv-loop μ-loop
 word-step-requires c κs = search needs

@@ -36,7 +36,7 @@ returns : tie.Need-returns Inv-loop μ-loop
 returns c =
     let l = c .before .before .before .before .before .loop in
     let s = now (c .before .before .before .before .before .before .before .args .text) in
-    (l .inv .1, l .inv .0, λ k. (sym (l .inv .1) ∙ mark-token s (l .i) (c .mark-of .result) (search needs) (sym (c .mark-of .ensures)) k, search needs))
+    (search needs, search needs, λ k. (sym (l .inv .1) ∙ mark-token s (l .i) (c .mark-of .result) (search needs) (sym (c .mark-of .ensures)) k, search needs))
 
 add-i : tie.Need-add-i Inv-loop μ-loop
 add-i c = search needs
