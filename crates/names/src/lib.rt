@@ -86,7 +86,7 @@ fn turn(slash: bool, escaped: bool, byte: u8) -> u8
         return byte;
     }
     if byte == nameshape::divider_of(slash) {
-        return 46;
+        return b'.';
     }
     byte
 }
@@ -156,10 +156,10 @@ pub fn cmp_full(x: &[u8], path: &[u8], name: &[u8], slash: bool) -> u8
         return BEFORE;
     }
     let byte = x[n];
-    if byte < 46 {
+    if byte < b'.' {
         return BEFORE;
     }
-    if 46 < byte {
+    if b'.' < byte {
         return AFTER;
     }
     let behind = n + 1;
@@ -180,7 +180,7 @@ fn start_behind(escaped: bool, start: usize, next: usize, byte: u8) -> usize
     if escaped {
         return start;
     }
-    if byte == 46 {
+    if byte == b'.' {
         return next;
     }
     start

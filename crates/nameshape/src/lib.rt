@@ -56,9 +56,9 @@ pub fn divider_of(slash: bool) -> u8
     ensures { λ r. ⌜ r ≡ divider slash ⌝ }
 {
     if slash {
-        return 47;
+        return b'/';
     }
-    46
+    b'.'
 }
 
 fn body_next(slash: bool, state: u8, byte: u8) -> u8
@@ -67,7 +67,7 @@ fn body_next(slash: bool, state: u8, byte: u8) -> u8
     if is_name_byte(byte) {
         return BODY;
     }
-    if byte == 92 {
+    if byte == b'\\' {
         return ESCAPE;
     }
     if state == START {
@@ -76,7 +76,7 @@ fn body_next(slash: bool, state: u8, byte: u8) -> u8
     if byte == divider_of(slash) {
         return START;
     }
-    if byte == 91 {
+    if byte == b'[' {
         return BRACKET;
     }
     WRONG
@@ -95,16 +95,16 @@ fn bracket_next(state: u8, byte: u8) -> u8
         return SECOND;
     }
     if state == INDEX {
-        if byte == 93 {
+        if byte == b']' {
             return INDEXED;
         }
-        if byte == 58 {
+        if byte == b':' {
             return COLON;
         }
         return WRONG;
     }
     if state == SECOND {
-        if byte == 93 {
+        if byte == b']' {
             return RANGED;
         }
         return WRONG;
@@ -210,7 +210,7 @@ pub fn escape(escaped: bool, byte: u8) -> bool
     if escaped {
         return false;
     }
-    byte == 92
+    byte == b'\\'
 }
 
 fn may_follow(escaped: bool, byte: u8) -> bool
@@ -220,7 +220,7 @@ fn may_follow(escaped: bool, byte: u8) -> bool
         if escaped {
             return true;
         }
-        return byte != 34;
+        return byte != b'"';
     }
     false
 }

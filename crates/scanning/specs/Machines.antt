@@ -8,13 +8,13 @@ use mathlib.Core.Path.{_≡_, refl}
 use lib.Dec.{leb, eqb}
 use lib.ListN.{drop}
 use Rattle.classes.specs.Choice.{pick, and, within}
-use Rattle.classes.specs.Classes.{classOf}
+use Rattle.classes.specs.Classes.{is, classOf}
 use Rattle.scanning.specs.Scan.{scanLen, scanSt}
 use Rattle.scanning.specs.declared.Blank.{Blank}
 
 -- '// .. and /* .. start a comment'
 abbrev pub commences : ℕ → Bool
-commences d = pick (eqb d 47) true (eqb d 42)
+commences d = pick (is "/" d) true (is "*" d)
 
 -- 'A word is a longest run of letters, digits, _ $ . / [ ] + - and escaped pairs; : belongs to it only after an unescaped [, up to
 -- the next unescaped ]. A backslash takes the next byte, 0x21 to 0x7E, into the word; a backslash without one ends the word before it.'
@@ -80,9 +80,9 @@ blankStop m k d =
 -- '// (to the next LF or the text's end) and /* (to a */ wholly after it)'
 unfoldable pub modeNext : ℕ → ℕ → ℕ → ℕ → ℕ
 modeNext m k c d =
-    pick (eqb m 0) (pick (eqb k 8) (pick (eqb d 47) 1 2) 0)
-    (pick (eqb m 1) (pick (eqb c 10) 0 1)
-    (pick (eqb m 2) 3 (pick (eqb m 3) (pick (eqb c 42) (pick (eqb d 47) 4 3) 3) 0)))
+    pick (eqb m 0) (pick (eqb k 8) (pick (is "/" d) 1 2) 0)
+    (pick (eqb m 1) (pick (is "\n" c) 0 1)
+    (pick (eqb m 2) 3 (pick (eqb m 3) (pick (is "*" c) (pick (is "/" d) 4 3) 3) 0)))
 
 abbrev pub sinceNext : ℕ → ℕ → ℕ
 sinceNext m n = pick (eqb m 0) 0 (n + 1)
@@ -106,7 +106,7 @@ blank-goes m n m' n' c d e f = rw (f, e)
 
 -- a block comment is closed by a star with a slash behind it
 abbrev pub blockHalts : ℕ → ℕ → ℕ → Bool
-blockHalts q c d = and (eqb c 42) (eqb d 47)
+blockHalts q c d = and (is "*" c) (is "/" d)
 
 abbrev pub blockGoes : ℕ → ℕ → ℕ → ℕ
 blockGoes q c d = q

@@ -121,10 +121,10 @@ fn blank_stop(mode: u8, class: u8, behind: u8) -> bool
             return false;
         }
         if class == 8 {
-            if behind == 47 {
+            if behind == b'/' {
                 return false;
             }
-            return !(behind == 42);
+            return !(behind == b'*');
         }
         return true;
     }
@@ -136,7 +136,7 @@ fn mode_next(mode: u8, class: u8, byte: u8, behind: u8) -> u8
 {
     if mode == 0 {
         if class == 8 {
-            if behind == 47 {
+            if behind == b'/' {
                 return 1;
             }
             return 2;
@@ -144,7 +144,7 @@ fn mode_next(mode: u8, class: u8, byte: u8, behind: u8) -> u8
         return 0;
     }
     if mode == 1 {
-        if byte == 10 {
+        if byte == b'\n' {
             return 0;
         }
         return 1;
@@ -153,8 +153,8 @@ fn mode_next(mode: u8, class: u8, byte: u8, behind: u8) -> u8
         return 3;
     }
     if mode == 3 {
-        if byte == 42 {
-            if behind == 47 {
+        if byte == b'*' {
+            if behind == b'/' {
                 return 4;
             }
             return 3;

@@ -59,8 +59,8 @@ fn text_end(text: &[u8], from: usize) -> Content
 fn block_stop(byte: u8, behind: u8) -> bool
     ensures { λ r. ⌜ r ≡ blockHalts 0 byte behind ⌝ }
 {
-    if byte == 42 {
-        return behind == 47;
+    if byte == b'*' {
+        return behind == b'/';
     }
     false
 }
