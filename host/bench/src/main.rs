@@ -1,6 +1,6 @@
 //! The benchmark: the proved functions, through the static library, against the second program and the plainest possible
 //! byte loop, all in the same run. Prints Markdown tables; the best of some runs counts. `bench --text SIZE` prints the text of
-//! the first rows instead, of at least so many bytes, for other measurements.
+//! the first rows instead, of at least so many bytes, and `bench --netlist WIRES` that of the rows in netlist order, for other measurements.
 
 mod measure;
 mod text;
@@ -28,20 +28,30 @@ const SHARE_ROUNDS: usize = 30;
 fn main() -> ExitCode {
     let arguments: Vec<String> = std::env::args().skip(1).collect();
     let words: Vec<&str> = arguments.iter().map(String::as_str).collect();
-    match (words.as_slice(), words.get(1).map(|size| size.parse())) {
-        ([], _) => print_all(),
-        (["--text", _], Some(Ok(size))) => {
-            if let Err(error) = std::io::stdout().write_all(&text::board(size)) {
-                eprintln!("bench: {error}");
-                return ExitCode::from(2);
-            }
-        }
-        _ => {
-            eprintln!("usage: bench [--text SIZE]");
-            return ExitCode::from(2);
+    if words.is_empty() {
+        print_all();
+        return ExitCode::SUCCESS;
+    }
+    let Some(text) = asked_text(&words) else {
+        eprintln!("usage: bench [--text SIZE | --netlist WIRES]");
+        return ExitCode::from(2);
+    };
+    match std::io::stdout().write_all(&text) {
+        Ok(()) => ExitCode::SUCCESS,
+        Err(error) => {
+            eprintln!("bench: {error}");
+            ExitCode::from(2)
         }
     }
-    ExitCode::SUCCESS
+}
+
+/// The text that is asked for, or none where the words ask for nothing that there is.
+fn asked_text(words: &[&str]) -> Option<Vec<u8>> {
+    match words {
+        ["--text", size] => Some(text::board(size.parse().ok()?)),
+        ["--netlist", wires] => Some(netlist(wires.parse().ok()?, Order::Netlist)),
+        _ => None,
+    }
 }
 
 fn print_all() {
