@@ -1,6 +1,7 @@
 //! The benchmark: the proved functions, through the static library, against the second program and the plainest possible
 //! byte loop, all in the same run. Prints Markdown tables; the best of some runs counts. `bench --text SIZE` prints the text of
-//! the first rows instead, of at least so many bytes, and `bench --netlist WIRES` that of the rows in netlist order, for other measurements.
+//! the first rows instead, of at least so many bytes, and `bench --netlist WIRES` or `bench --heads WIRES` those of the others,
+//! for other measurements.
 
 mod measure;
 mod text;
@@ -33,7 +34,7 @@ fn main() -> ExitCode {
         return ExitCode::SUCCESS;
     }
     let Some(text) = asked_text(&words) else {
-        eprintln!("usage: bench [--text SIZE | --netlist WIRES]");
+        eprintln!("usage: bench [--text SIZE | --netlist WIRES | --heads WIRES]");
         return ExitCode::from(2);
     };
     match std::io::stdout().write_all(&text) {
@@ -50,17 +51,18 @@ fn asked_text(words: &[&str]) -> Option<Vec<u8>> {
     match words {
         ["--text", size] => Some(text::board(size.parse().ok()?)),
         ["--netlist", wires] => Some(netlist(wires.parse().ok()?, Order::Netlist)),
+        ["--heads", wires] => Some(stars(wires.parse().ok()?)),
         _ => None,
     }
 }
 
 fn print_all() {
-    let texts: Vec<Vec<u8>> = [1_000_000, 4_000_000, 10_000_000].map(text::board).to_vec();
-    print_table("Tokens", &texts.iter().map(|text| tokens_row(text)).collect::<Vec<_>>());
+    let texts = texts_to_read();
+    print_table("Tokens", &texts.iter().map(|(what, text)| tokens_row(what, text)).collect::<Vec<_>>());
     if !proved::has(Functions::Read) {
         return println!("\nThe library was linked without the functions that read.");
     }
-    print_table("Reading", &texts.iter().map(|text| read_row(text)).collect::<Vec<_>>());
+    print_table("Reading", &texts.iter().map(|(what, text)| read_row(what, text)).collect::<Vec<_>>());
     if proved::has(Functions::Sheet) {
         print_table("Checking a sheet", &WIRES.map(|wires| Board::new(netlist(wires, Order::Netlist)).check_row()));
     }
@@ -82,9 +84,16 @@ fn print_all() {
     }
 }
 
-fn tokens_row(text: &[u8]) -> Row {
+/// What is read by itself: most of a board's text is numbers, of a netlist's paths, and of the last one's cell heads, which are words.
+fn texts_to_read() -> Vec<(&'static str, Vec<u8>)> {
+    let boards = [1_000_000, 4_000_000, 10_000_000].map(|size| ("board", text::board(size)));
+    let others = [("netlist", netlist(WIRES[1], Order::Netlist)), ("cell heads", stars(WIRES[2]))];
+    boards.into_iter().chain(others).collect()
+}
+
+fn tokens_row(what: &str, text: &[u8]) -> Row {
     Row {
-        what: "count tokens".to_string(),
+        what: format!("count tokens, {what}"),
         bytes: text.len(),
         byte_loop: loop_time(&[text]),
         second: Some(best(3, || second::tokens::tokens(black_box(text)).list.len())),
@@ -92,12 +101,12 @@ fn tokens_row(text: &[u8]) -> Row {
     }
 }
 
-fn read_row(text: &[u8]) -> Row {
+fn read_row(what: &str, text: &[u8]) -> Row {
     let mut rooms = Rooms::new(text, Wanted::default());
     let read = proved::read_file(text, &mut rooms.tables());
     assert_eq!(read.number, 0, "the text is refused at {}", read.place);
     Row {
-        what: format!("read, {} entries", with_commas(read.entries as usize)),
+        what: format!("read, {what}, {} entries", with_commas(read.entries as usize)),
         bytes: text.len(),
         byte_loop: loop_time(&[text]),
         second: Some(best(3, || second::read_file(black_box(text), usize::MAX, usize::MAX))),
