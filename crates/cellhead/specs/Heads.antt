@@ -10,10 +10,13 @@ use borrow.Author.Tests.{eq-eqb, ne-eqb}
 use Rattle.classes.specs.Choice.{pick}
 use Rattle.grammar.specs.Ll.{lit, non}
 use Rattle.grammar.specs.Machine.{fine, bad}
+use Rattle.tokenforms.specs.declared.Token.{Token}
 use Rattle.tokenforms.specs.declared.Token.the-variants.{Got, Stop}
 use Rattle.tokenforms.specs.Tokens.{tokenAt}
 use Rattle.tokens.specs.Stream.{Placed, placed}
 use Rattle.nameshape.specs.Shape.{isPath}
+use Rattle.nametokens.specs.Shaped.{shapeOf, nameFault}
+use Rattle.nametokens.specs.ShapeLaws.{judged}
 use Rattle.grammar.specs.declared.Hand.{Hand}
 use Rattle.grammar.specs.declared.Mark.the-variants as mark
 use Rattle.grammar.specs.declared.ReadName.the-variants as rn
@@ -44,17 +47,25 @@ PathHere t d r =
       stepped (state (lit (path d ! named) ∷ ss) false d unit cr ir l) t ≡ pick (eqb r 0) (fine (state ss false d unit cr ir (noted named t l))) (bad r (t .start))
 
 module _ (t : Placed) (d : Bool) where
-  pub path-kind : (t .kind ≡ 7 → ⊥) → PathHere t d 4
+  path-kind : (t .kind ≡ 7 → ⊥) → PathHere t d 4
   path-kind n = λ ss unit cr ir l. rw (ne-eqb (t .kind) 7 n)
 
-  pub path-shape : t .kind ≡ 7 → isPath d (t .bytes) ≡ false → PathHere t d 4
+  path-shape : t .kind ≡ 7 → isPath d (t .bytes) ≡ false → PathHere t d 4
   path-shape q a = λ ss unit cr ir l. rw (eq-eqb (t .kind) 7 q, a)
 
-  pub path-long : t .kind ≡ 7 → isPath d (t .bytes) ≡ true → t .long ≡ true → PathHere t d 8
+  path-long : t .kind ≡ 7 → isPath d (t .bytes) ≡ true → t .long ≡ true → PathHere t d 8
   path-long q a g = λ ss unit cr ir l. rw (eq-eqb (t .kind) 7 q, a, g)
 
-  pub path-fine : t .kind ≡ 7 → isPath d (t .bytes) ≡ true → t .long ≡ false → PathHere t d 0
+  path-fine : t .kind ≡ 7 → isPath d (t .bytes) ≡ true → t .long ≡ false → PathHere t d 0
   path-fine q a g = let z : eqb (t .kind) 2 ≡ false = rw q refl in λ ss unit cr ir l. rw (eq-eqb (t .kind) 7 q, a, g, z)
+
+-- an instance's path by where its reader stands
+module _ (s : List ℕ) (d : Bool) (k b e : ℕ) (long : Bool) where
+  pub path-judged : (t : Token) (q n : ℕ) → t ≡ Got k b e long → q ≡ shapeOf d s t → n ≡ nameFault false q long → PathHere (placed s k b e long) d n
+  unfolding isPath
+  path-judged =
+      let t = placed s k b e long in
+      judged (PathHere t d) false d s k b e long (path-kind t d) (path-shape t d) (path-long t d) (path-fine t d)
 
 pub instance-stops : (s : List ℕ) (p n q : ℕ) (d : Bool) → p ≤ length s → tokenAt s p ≡ Stop n q → InstanceRead s p d (ri.Refused n q)
 instance-stops s p n q d h t = λ ss unit cr ir l. halts s _ ss _ p n q h t

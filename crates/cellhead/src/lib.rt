@@ -1,11 +1,10 @@
 // The reader of what stands at the head of a cell: its type and its instance.
 ghost use Prim.Native.Nat.{_+_, _-_, _≤_};
 ghost use lib.ListN.{length};
-ghost use Rattle.cellhead.specs.Heads.{InstanceRead, PathHere, PathBehind, HeadRead};
-ghost use Rattle.tokens.specs.Stream.{placed};
+ghost use Rattle.cellhead.specs.Heads.{InstanceRead, PathBehind, HeadRead};
 use tokenforms::Token;
-use tokens::token_from;
-use nameshape::is_path;
+use nametokens::name_fault;
+use nametokens::name_token;
 use headsteps::take_opened;
 use headsteps::take_next;
 use headsteps::expect_key;
@@ -26,29 +25,14 @@ pub enum CellHead {
     Refused { number: u8, place: usize },
 }
 
-// 0 where an instance's path stands here, else the refusal's number.
-fn path_here(text: &[u8], kind: u8, start: usize, end: usize, long: bool, slash: bool) -> u8
-    requires { ⌜ (start ≤ end) × (end ≤ length (now text)) ⌝ }
-    ensures { λ r. ⌜ PathHere (placed (now (text .entry)) kind start end long) slash r ⌝ }
-{
-    if kind == 7 {
-        if is_path(&text[start..end], slash) {
-            if long {
-                return 8;
-            }
-            return 0;
-        }
-        return 4;
-    }
-    4
-}
-
 // The rest of INSTANCE: a path, nothing or '*', and the closing bracket.
 fn read_instance(text: &[u8], from: usize, slash: bool) -> Instance
     requires { ⌜ from ≤ length (now text) ⌝ }
     ensures { λ r. ⌜ InstanceRead (now (text .entry)) from slash r ⌝ }
 {
-    let t = token_from(text, from);
+    let shaped = name_token(text, from, slash);
+    let t = shaped.token;
+    let state = shaped.state;
     match t {
         Token::Stop { number, place } => Instance::Refused { number: number, place: place },
         Token::Got { kind, start, end, long } => {
@@ -62,7 +46,7 @@ fn read_instance(text: &[u8], from: usize, slash: bool) -> Instance
                     Mark::At(e) => Instance::Path { sort: 2, from: 0, to: 0, end: e },
                 };
             }
-            let n = path_here(text, kind, start, end, long, slash);
+            let n = name_fault(false, state, long);
             if n == 0 {
                 let m = expect(text, end, 3);
                 return match m {

@@ -13,6 +13,8 @@ ghost use Rattle.rules.specs.Entries.{checkValues, SecondValue, delayTail, chec
 ghost use Rattle.classes.specs.Choice.{pick};
 use tokenforms::Token;
 use tokens::token_from;
+use nametokens::name_fault;
+use nametokens::name_token;
 use words::key_of;
 use kinds::has_second;
 use kinds::is_signed;
@@ -130,7 +132,9 @@ fn read_device(text: &[u8], from: usize, slash: bool, unit: u8, group: u8, place
     requires { ⌜ from ≤ length (now text) ⌝ }
     ensures { λ r. ⌜ Entered (now (text .entry)) from (non (device slash) ∷ []) slash unit 4 group place (r .status) (r .entry) (take (r .count) (r .list)) × (r .count ≤ 6) ⌝ }
 {
-    let t = token_from(text, from);
+    let shaped = name_token(text, from, slash);
+    let t = shaped.token;
+    let state = shaped.state;
     match t {
         Token::Stop { number, place: at } => no_entry(number, at),
         Token::Got { kind, start, end, long } => {
@@ -139,7 +143,7 @@ fn read_device(text: &[u8], from: usize, slash: bool, unit: u8, group: u8, place
                 let bare = Entry { kind: 4, group: group, place: place, edge1: 0, from1: 0, to1: 0, edge2: 0, from2: 0, to2: 0 };
                 return with_values(bare, values);
             }
-            let n = entryends::port_here(text, kind, start, end, long, slash);
+            let n = name_fault(true, state, long);
             if n == 0 {
                 let values = values::open_values(text, end, unit);
                 let entry = Entry { kind: 4, group: group, place: place, edge1: 0, from1: start, to1: end, edge2: 0, from2: 0, to2: 0 };

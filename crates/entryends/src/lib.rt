@@ -4,43 +4,29 @@ ghost use Prim.Native.Nat.{_-_, _≤_, _<_};
 ghost use lib.ListN.{length};
 ghost use Rattle.tokens.specs.Stream.{placed};
 ghost use Rattle.grammar.specs.Grammar.{second};
-ghost use Rattle.rules.specs.Contracts.{PortHere, ReadsPort, EdgeIs, ReadsEnd, ReadsEdged};
+ghost use Rattle.rules.specs.Contracts.{ReadsPort, EdgeIs, ReadsEnd, ReadsEdged};
 use tokenforms::Token;
 use tokens::token_from;
 use words::edge_of;
-use nameshape::is_port;
+use nametokens::name_fault;
+use nametokens::name_token;
 use grammar::Mark;
 use grammar::ReadName;
 use grammar::EdgeHere;
 use grammar::ReadEnd;
-
-// 0 where a port's name stands here, else the refusal's number.
-pub fn port_here(text: &[u8], kind: u8, start: usize, end: usize, long: bool, slash: bool) -> u8
-    requires { ⌜ (start ≤ end) × (end ≤ length (now text)) ⌝ }
-    ensures { λ r. ⌜ PortHere (placed (now (text .entry)) kind start end long) slash r ⌝ }
-{
-    if kind == 7 {
-        if is_port(&text[start..end], slash) {
-            if long {
-                return 8;
-            }
-            return 0;
-        }
-        return 4;
-    }
-    4
-}
 
 // A port's name, where one stands alone.
 pub fn read_port(text: &[u8], from: usize, slash: bool) -> ReadName
     requires { ⌜ from ≤ length (now text) ⌝ }
     ensures { λ r. ⌜ ReadsPort (now (text .entry)) from slash r ⌝ }
 {
-    let t = token_from(text, from);
+    let shaped = name_token(text, from, slash);
+    let t = shaped.token;
+    let state = shaped.state;
     match t {
         Token::Stop { number, place } => ReadName::Refused { number: number, place: place },
         Token::Got { kind, start, end, long } => {
-            let n = port_here(text, kind, start, end, long, slash);
+            let n = name_fault(true, state, long);
             if n == 0 {
                 return ReadName::Name { from: start, to: end };
             }
@@ -105,14 +91,16 @@ pub fn read_end(text: &[u8], from: usize, second: bool, slash: bool) -> ReadEnd
     requires { ⌜ from ≤ length (now text) ⌝ }
     ensures { λ r. ⌜ ReadsEnd (now (text .entry)) from second slash r ⌝ }
 {
-    let t = token_from(text, from);
+    let shaped = name_token(text, from, slash);
+    let t = shaped.token;
+    let state = shaped.state;
     match t {
         Token::Stop { number, place } => ReadEnd::Refused { number: number, place: place },
         Token::Got { kind, start, end, long } => {
             if kind == 2 {
                 return read_edged(text, end, second, slash);
             }
-            let n = port_here(text, kind, start, end, long, slash);
+            let n = name_fault(true, state, long);
             if n == 0 {
                 return ReadEnd::End { edge: 0, from: start, to: end, end: end };
             }

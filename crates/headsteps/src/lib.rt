@@ -16,6 +16,7 @@ use grammar::Mark;
 use grammar::ReadName;
 use numbershape::is_number;
 use tokenforms::Token;
+use tokens::text_from;
 use tokens::token_from;
 use words::divider_of;
 use words::key_of;
@@ -90,7 +91,7 @@ pub fn read_text(text: &[u8], from: usize) -> ReadName
     requires { ⌜ from ≤ length (now text) ⌝ }
     ensures { λ r. ⌜ TextRead (now (text .entry)) from r ⌝ }
 {
-    let t = token_from(text, from);
+    let t = text_from(text, from);
     match t {
         Token::Stop { number, place } => ReadName::Refused { number: number, place: place },
         Token::Got { kind, start, end, long } => {

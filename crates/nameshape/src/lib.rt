@@ -14,7 +14,7 @@ use classes::is_within;
 // Where a reader of a name's bytes stands.
 const START: u8 = 0; // before a component's first byte
 
-const BODY: u8 = 1; // in a component
+pub const BODY: u8 = 1; // in a component
 
 const ESCAPE: u8 = 2; // behind a backslash
 
@@ -30,10 +30,10 @@ const INDEXED: u8 = 7; // behind the `]` of `[n]`
 
 const RANGED: u8 = 8; // behind the `]` of `[n:n]`
 
-const WRONG: u8 = 9; // no name goes on like this
+pub const WRONG: u8 = 9; // no name goes on like this
 
 // A letter, a digit, `_` or `$`.
-fn is_name_byte(byte: u8) -> bool
+pub fn is_name_byte(byte: u8) -> bool
     ensures { λ r. ⌜ r ≡ isNameByte byte ⌝ }
 {
     if is_letter(byte) {
@@ -161,20 +161,28 @@ fn state_behind(n: usize) -> u8
     BODY
 }
 
-// Where a reader of the whole word stands.
-fn name_run(word: &[u8], slash: bool) -> u8
-    ensures { λ r. ⌜ r ≡ nameRun slash 0 (now (word .entry)) ⌝ }
+// Where a reader stands behind a part of a word, who stood there before it.
+pub fn run_on(part: &[u8], slash: bool, before: u8) -> u8
+    ensures { λ r. ⌜ r ≡ nameRun slash before (now (part .entry)) ⌝ }
 {
-    let mut i = plain_run(word);
-    let mut state = state_behind(i);
-    while i < word.len() {
-        state = name_next(slash, state, word[i]);
+    let mut i = 0;
+    let mut state = before;
+    while i < part.len() {
+        state = name_next(slash, state, part[i]);
         i += 1;
     }
     state
 }
 
-fn may_end(port: bool, state: u8) -> bool
+// Where a reader of the whole word stands.
+pub fn name_run(word: &[u8], slash: bool) -> u8
+    ensures { λ r. ⌜ r ≡ nameRun slash 0 (now (word .entry)) ⌝ }
+{
+    let n = plain_run(word);
+    run_on(&word[n..], slash, state_behind(n))
+}
+
+pub fn may_end(port: bool, state: u8) -> bool
     ensures { λ r. ⌜ r ≡ mayEnd port state ⌝ }
 {
     if state == BODY {

@@ -11,12 +11,15 @@ use lib.ListN.{length}
 use lib.IntN.{ℤ}
 use borrow.Author.Tests.{eq-eqb, ne-eqb, lt-ltb, le-ltb, le-leb, lt-leb}
 use Rattle.classes.specs.Choice.{pick}
+use Rattle.tokenforms.specs.declared.Token.{Token}
 use Rattle.tokenforms.specs.declared.Token.the-variants.{Got, Stop}
 use Rattle.tokenforms.specs.Tokens.{tokenAt}
 use Rattle.tokens.specs.Stream.{Placed, placed, onwards}
 use Rattle.words.specs.Words.{edgeOf, edges}
 use Rattle.words.specs.Scales.{find-most}
 use Rattle.nameshape.specs.Shape.{isPort}
+use Rattle.nametokens.specs.Shaped.{shapeOf, nameFault}
+use Rattle.nametokens.specs.ShapeLaws.{judged}
 use Rattle.numbershape.specs.Shape.{isNumber, partsOf}
 use Rattle.numbershape.specs.Value.{numberOf, exact, withSign}
 use Rattle.numbershape.specs.declared.Number.{Number}
@@ -299,17 +302,25 @@ open-not s p unit n q vs w = λ ss slash cr ir l. w skip _ slash unit cr ir l
 
 -- ports and edges
 module _ (t : Placed) (slash : Bool) where
-  pub port-kind : (t .kind ≡ 7 → ⊥) → PortHere t slash 4
+  port-kind : (t .kind ≡ 7 → ⊥) → PortHere t slash 4
   port-kind n = λ m ss unit cr ir l. rw (ne-eqb (t .kind) 7 n)
 
-  pub port-shape : t .kind ≡ 7 → isPort slash (t .bytes) ≡ false → PortHere t slash 4
+  port-shape : t .kind ≡ 7 → isPort slash (t .bytes) ≡ false → PortHere t slash 4
   port-shape q a = λ m ss unit cr ir l. rw (eq-eqb (t .kind) 7 q, a)
 
-  pub port-long : t .kind ≡ 7 → isPort slash (t .bytes) ≡ true → t .long ≡ true → PortHere t slash 8
+  port-long : t .kind ≡ 7 → isPort slash (t .bytes) ≡ true → t .long ≡ true → PortHere t slash 8
   port-long q a g = λ m ss unit cr ir l. rw (eq-eqb (t .kind) 7 q, a, g)
 
-  pub port-fine : t .kind ≡ 7 → isPort slash (t .bytes) ≡ true → t .long ≡ false → PortHere t slash 0
+  port-fine : t .kind ≡ 7 → isPort slash (t .bytes) ≡ true → t .long ≡ false → PortHere t slash 0
   port-fine q a g = let z : eqb (t .kind) 2 ≡ false = rw q refl in λ m ss unit cr ir l. rw (eq-eqb (t .kind) 7 q, a, g, z)
+
+-- a port's name by where its reader stands
+module _ (s : List ℕ) (slash : Bool) (k b e : ℕ) (long : Bool) where
+  pub port-judged : (t : Token) (q n : ℕ) → t ≡ Got k b e long → q ≡ shapeOf slash s t → n ≡ nameFault true q long → PortHere (placed s k b e long) slash n
+  unfolding isPort
+  port-judged =
+      let t = placed s k b e long in
+      judged (PortHere t slash) true slash s k b e long (port-kind t slash) (port-shape t slash) (port-long t slash) (port-fine t slash)
 
 edge-most : (w : List ℕ) → leb (edgeOf w) 8 ≡ true
 unfolding edgeOf

@@ -8,7 +8,7 @@ use mathlib.Core.Bool.{Bool, true, false, not, true≢false}
 use mathlib.Core.List.{List}
 use lib.Dec.{eqb, leb}
 use lib.ListN.{length, getD, drop, List·getD-eq-default}
-use borrow.Author.Tests.{lt-leb, le-leb, leb-true, leb-false, eq-eqb, ne-eqb, eqb-true, not-false}
+use borrow.Author.Tests.{lt-leb, le-leb, leb-true, leb-false, ne-eqb, eqb-true, not-false}
 use Rattle.classes.specs.Choice.{pick, and, within}
 use Rattle.classes.specs.Classes.{classOf, markOf}
 use Rattle.classes.specs.ClassLaws.{within-low, class-most, colon-byte, slash-byte, square-byte, unsquare-byte, back-byte, marked}
@@ -33,14 +33,15 @@ pub halts-by : (q c d : ℕ) → q < 2 → (classOf c ≡ 7 → ⊥) →
 unfolding wordStop
 halts-by q c d l p = rw (lt-leb 2 q l, ne-eqb (classOf c) 7 p, square-byte c, unsquare-byte c, slash-byte c, back-byte c, colon-byte c)
 
--- any other byte that goes on with it; a backslash with the byte that it takes along
-more-bytes : (s : List ℕ) (j : ℕ) → 1 ≤ getD s j 0 → j < length s
+-- a byte that is not 0 stands within the text
+pub more-bytes : (s : List ℕ) (j : ℕ) → 1 ≤ getD s j 0 → j < length s
 more-bytes s j h = by (leb (length s) j) refl
   where
     by : (v : Bool) → leb (length s) j ≡ v → j < length s
     by true e = let z : getD s j 0 ≡ 0 = List·getD-eq-default s 0 (leb-true (length s) j e) in absurd (omega arith)
     by false e = leb-false (length s) j e
 
+-- any other byte that goes on with it; a backslash with the byte that it takes along
 escape-goes : (s : List ℕ) (q i : ℕ) → q < 2 → i < length s → getD s i 0 ≡ 92 → within 0x21 0x7E (getD s (i + 1) 0) ≡ true →
     (wordFrom q s (i + 2) ≡ wordFrom q s i) × (i + 2 ≤ length s)
 unfolding wordStop wordNext classOf
@@ -134,7 +135,7 @@ word-starts s i h l = by (wordHalts 0 (getD s i 0) (getD s (i + 1) 0)) refl
     by false e = starts (classOf (getD s i 0)) (getD s (i + 1) 0) e (class-most (getD s i 0))
 
 -- and no mark goes on with one
-pub mark-halts : (c d : ℕ) → (markOf c ≡ 0 → ⊥) → wordHalts 0 c d ≡ true
+mark-halts : (c d : ℕ) → (markOf c ≡ 0 → ⊥) → wordHalts 0 c d ≡ true
 mark-halts c d n = by (wordHalts 0 c d) refl
   where
     by : (v : Bool) → wordHalts 0 c d ≡ v → v ≡ true
@@ -162,13 +163,13 @@ uncommented s i h l = by (eqb c 47) refl (commences d) refl
     by true e false f = refl
     by false e w f = refl
 
--- whether no word goes on from a place
-pub ends-by : (s : List ℕ) (i : ℕ) → i < length s → eqb (wordEnd s i) i ≡ wordHalts 0 (getD s i 0) (getD s (i + 1) 0)
-ends-by s i h = by (wordHalts 0 (getD s i 0) (getD s (i + 1) 0)) refl
+-- so no word goes on from one
+pub mark-ends : (s : List ℕ) (i : ℕ) → (markOf (getD s i 0) ≡ 0 → ⊥) → wordEnd s i ≡ i
+mark-ends s i n = by (leb (length s) i) refl
   where
-    by : (v : Bool) → wordHalts 0 (getD s i 0) (getD s (i + 1) 0) ≡ v → eqb (wordEnd s i) i ≡ v
-    by true e = eq-eqb _ _ (stops wordHalts wordGoes s 0 i h e)
-    by false e = let g = goes-on wordHalts wordGoes s 0 i h e in ne-eqb (wordEnd s i) i (λ z. omega arith)
+    by : (v : Bool) → leb (length s) i ≡ v → wordEnd s i ≡ i
+    by true e = ends wordHalts wordGoes s 0 i (leb-true (length s) i e)
+    by false e = stops wordHalts wordGoes s 0 i (leb-false (length s) i e) (mark-halts (getD s i 0) (getD s (i + 1) 0) n)
 
 -- n plain bytes
 pub plain-all : (s : List ℕ) (i n : ℕ) → i + n ≤ length s → ((k : ℕ) → i ≤ k → k < i + n → classOf (getD s k 0) ≡ 7) → wordFrom 0 s (i + n) ≡ wordFrom 0 s i

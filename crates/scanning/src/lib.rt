@@ -5,7 +5,7 @@ ghost use lib.Dec.{eqb};
 ghost use lib.ListN.{length, getD, drop};
 ghost use Rattle.classes.specs.Classes.{classOf};
 ghost use Rattle.scanning.specs.Scan.{scanLen};
-ghost use Rattle.scanning.specs.Machines.{wordHalts, wordEnd, blankStop, modeNext, sinceNext, textStop, closeStop, textNext, textGoes, closeHalts};
+ghost use Rattle.scanning.specs.Machines.{commences, wordHalts, wordEnd, blankStop, modeNext, sinceNext, textStop, closeStop, textNext, textGoes, closeHalts};
 ghost use Rattle.scanning.specs.Runs.{WhiteTo, SkippedTo, commented, bracketed, widthOf};
 use classes::class_of;
 use classes::is_legal;
@@ -33,14 +33,21 @@ pub fn peek(text: &[u8], i: usize) -> u8
     if i < text.len() { text[i] } else { 0 }
 }
 
-// Whether a word ends before this byte, which is not plain.
-fn word_stop(state: u8, byte: u8, behind: u8) -> bool
+// Whether a slash with this byte behind it starts a comment: // or /* .
+fn starts_comment(behind: u8) -> bool
+    ensures { λ r. ⌜ r ≡ commences behind ⌝ }
+{
+    behind == b'/' || behind == b'*'
+}
+
+// Whether a word ends before this byte, which is not plain. Only a slash and a backslash look at the byte behind them, which stands at next.
+fn word_stop(text: &[u8], next: usize, state: u8, byte: u8) -> bool
     requires { ⌜ (state < 2) × (classOf byte ≡ 7 → ⊥) ⌝ }
-    ensures { λ r. ⌜ r ≡ wordHalts state byte behind ⌝ }
+    ensures { λ r. ⌜ r ≡ wordHalts state byte (getD (now (text .entry)) next 0) ⌝ }
 {
     match byte {
-        b'/' => behind == b'/' || behind == b'*',
-        b'\\' => !is_within(0x21, 0x7E, behind),
+        b'/' => starts_comment(peek(text, next)),
+        b'\\' => !is_within(0x21, 0x7E, peek(text, next)),
         b'[' | b']' => false,
         b':' => state == 0,
         _ => true,
@@ -81,8 +88,7 @@ pub fn word_end(text: &[u8], from: usize) -> usize
         if is_plain(byte) {
             i += 1;
         } else {
-            let behind = peek(text, i + 1);
-            if word_stop(state, byte, behind) {
+            if word_stop(text, i + 1, state, byte) {
                 return i;
             }
             state = word_next(state, byte);
@@ -92,22 +98,15 @@ pub fn word_end(text: &[u8], from: usize) -> usize
     i
 }
 
-// Whether no word goes on from a place: as a rule a mark stands there.
+// Whether no word goes on from a place: as a rule a mark stands there, which is seen at once.
 pub fn ends_word(text: &[u8], place: usize) -> bool
     requires { ⌜ place ≤ length (now text) ⌝ }
     ensures { λ r. ⌜ r ≡ eqb (wordEnd (now (text .entry)) place) place ⌝ }
 {
-    if text.len() <= place {
+    if mark_of(peek(text, place)) != 0 {
         return true;
     }
-    let byte = text[place];
-    if mark_of(byte) != 0 {
-        return true;
-    }
-    if is_plain(byte) {
-        return false;
-    }
-    word_stop(0, byte, peek(text, place + 1))
+    word_end(text, place) == place
 }
 
 fn blank_stop(mode: u8, class: u8, behind: u8) -> bool
@@ -189,14 +188,13 @@ pub fn white_end(text: &[u8], from: usize) -> usize
     i
 }
 
-// Whether a comment begins here: // or /* .
+// Whether a comment begins here.
 fn comment_at(text: &[u8], i: usize) -> bool
     requires { ⌜ i ≤ length (now text) ⌝ }
     ensures { λ r. ⌜ r ≡ commented (now (text .entry)) i ⌝ }
 {
     if peek(text, i) == b'/' {
-        let behind = peek(text, i + 1);
-        return behind == b'/' || behind == b'*';
+        return starts_comment(peek(text, i + 1));
     }
     false
 }

@@ -82,7 +82,7 @@ fn block_end(text: &[u8], from: usize) -> usize
 }
 
 // The string whose opening quote stands at i.
-fn string_at(text: &[u8], i: usize) -> Token
+pub fn string_at(text: &[u8], i: usize) -> Token
     requires { ⌜ i < length (now text) ⌝ }
     ensures { λ r. ⌜ r ≡ stringAt (now (text .entry)) i ⌝ }
 {

@@ -1,4 +1,4 @@
--- Marks and words that a few tests find.
+-- Marks, strings and words that a few tests find.
 -- Assumes nothing.
 use Prim.Native.Nat.{ℕ, _+_, _-_, _≤_, _<_}
 use native.Mathlib.Omega.{arith}
@@ -13,8 +13,8 @@ use Rattle.classes.specs.Classes.{classOf, markOf}
 use Rattle.classes.specs.ClassLaws.{slash-byte, marked}
 use Rattle.scanning.specs.Machines.{commences, wordEnd, blankEnd, blankAt}
 use Rattle.scanning.specs.RunLaws.{unblank, word-starts, uncommented, plain-all}
-use Rattle.tokenforms.specs.Tokens.{behind, tokenAt}
-use Rattle.tokenforms.specs.HereLaws.{mark-here, word-here}
+use Rattle.tokenforms.specs.Tokens.{behind, stringAt, tokenAt}
+use Rattle.tokenforms.specs.HereLaws.{mark-here, string-here, word-here}
 use Rattle.tokenforms.specs.declared.Token.the-variants.{Got}
 use Rattle.tokens.specs.declared.Sign.{Sign}
 
@@ -30,6 +30,13 @@ mark-token s i k h e l =
     let slash : eqb c 47 ≡ false = sym (slash-byte c) ∙ ne-eqb (classOf c) 8 (λ z. omega arith) in
     let u = unblank s i (λ _ z. omega arith) (ap (λ b. and b (commences (getD s (i + 1) 0))) slash) in
     rw (u .0, u .1) (mark-here s i k h e (λ z. omega arith))
+
+pub string-token : (s : List ℕ) (i : ℕ) → i < length s → getD s i 0 ≡ 34 → tokenAt s i ≡ stringAt s i
+unfolding tokenAt behind classOf
+string-token s i h e =
+    let quote : classOf (getD s i 0) ≡ 6 = rw e in
+    let u = unblank s i (λ _ z. omega arith) (rw e) in
+    rw (u .0, u .1) (string-here s i h e)
 
 pub word-token : (s : List ℕ) (i e : ℕ) → i < length s → wordEnd s i ≡ e → i < e → tokenAt s i ≡ Got 7 i e (ltb 1024 (e - i))
 unfolding tokenAt behind

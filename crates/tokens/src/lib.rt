@@ -7,8 +7,11 @@ ghost use Rattle.tokens.specs.Stream.{stream, count, endOf};
 ghost use Rattle.tokens.specs.Quick.{Signed};
 use classes::is_white;
 use classes::mark_of;
+use scanning::peek;
+use scanning::white_end;
 use scanning::word_end;
 use tokenforms::Token;
+use tokenforms::string_at;
 use tokenforms::token_any;
 
 // The token from a place on. Behind the text's end there is none: its end is met there, wherever that is.
@@ -48,7 +51,7 @@ pub fn token_from(text: &[u8], from: usize) -> Token
             long: 1024 < end - start,
         };
     }
-    let other = token_any(text, start);
+    let other = text_from(text, start);
     match other {
         Token::Stop { number, place } => Token::Stop {
             number: number,
@@ -68,6 +71,18 @@ pub fn token_from(text: &[u8], from: usize) -> Token
     }
 }
 
+// The token from a place on, where neither a mark nor a word is expected: as a rule it is a string.
+pub fn text_from(text: &[u8], from: usize) -> Token
+    requires { ⌜ from ≤ length (now text) ⌝ }
+    ensures { λ r. ⌜ r ≡ tokenAt (now (text .entry)) from ⌝ }
+{
+    let start = white_end(text, from);
+    if peek(text, start) == b'"' {
+        return string_at(text, start);
+    }
+    token_any(text, start)
+}
+
 // Where the token from a place on ends, or 0 where there is none. No token is made where it is a mark or a word.
 fn token_end(text: &[u8], from: usize) -> usize
     requires { ⌜ from ≤ length (now text) ⌝ }
@@ -82,7 +97,7 @@ fn token_end(text: &[u8], from: usize) -> usize
     if place < e {
         return e;
     }
-    let t = token_any(text, place);
+    let t = text_from(text, place);
     let Token::Got {
         kind: _,
         start: _,

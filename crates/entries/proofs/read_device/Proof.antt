@@ -1,20 +1,16 @@
 -- `entries::read_device` meets its contract: each way through it has its rule.
 -- Assumes nothing.
-use Prim.Native.Nat.{ℕ}
-use mathlib.Core.Path.{sym, _∙_, subst}
-use native.Mathlib.Omega.{arith}
+use mathlib.Core.Path.{sym, _∙_}
 use lib.ListN.{take}
 use denote.Ref.{now}
 use borrow.Author.Needs.{needs}
-use Rattle.tokens.specs.Stream.{placed, onwards}
-use Rattle.rules.specs.Contracts.{PortHere}
-use Rattle.rules.specs.Rules.{ahead, open-values}
+use Rattle.rules.specs.Rules.{ahead, open-values, port-judged}
 use Rattle.rules.specs.Entries as en
 use Rattle.entries.proofs.read_device.Statement.{statement}
 use Rattle.entries.proofs.read_device.Tie as tie
 
-token-from-requires : tie.Need-token-from-requires
-token-from-requires c κs = search needs
+name-token-requires : tie.Need-name-token-requires
+name-token-requires c κs = search needs
 
 enum-known-t : tie.Need-enum-known-t
 enum-known-t c = search needs
@@ -30,8 +26,8 @@ read-values-requires c κs =
     let pre = c .before .before .before .before .before .before .pre in
     let args = c .before .before .before .before .before .before .args in
     let t2 = c .before .before .t2 in
-    let token-from = c .before .before .before .before .token-from in
-    (ahead (now (args .text)) (args .from) ((t2 .given) .0 .0) ((t2 .given) .0 .1 .0) ((t2 .given) .0 .1 .1 .0) ((t2 .given) .0 .1 .1 .1 .0) pre (sym (token-from .ensures) ∙ (t2 .given) .1)) .1
+    let name-token = c .before .before .before .before .name-token in
+    (ahead (now (args .text)) (args .from) ((t2 .given) .0 .0) ((t2 .given) .0 .1 .0) ((t2 .given) .0 .1 .1 .0) ((t2 .given) .0 .1 .1 .1 .0) pre (sym (name-token .ensures .0) ∙ (t2 .given) .1)) .1
 
 with-values-requires : tie.Need-with-values-requires
 with-values-requires c κs = search needs
@@ -42,26 +38,21 @@ returns c =
     let args = c .before .before .before .before .before .before .before .before .args in
     let t2 = c .before .before .before .before .t2 in
     let pre = c .before .before .before .before .before .before .before .before .pre in
-    let token-from = c .before .before .before .before .before .before .token-from in
+    let name-token = c .before .before .before .before .before .before .name-token in
     let read-values = c .before .read-values in
     let if1 = c .before .before .if1 in
-    rw (with-values .ensures) (en.device-bare (now (args .text)) (args .from) (args .slash) (args .unit) 4 (args .group) (args .place) ((t2 .given) .0 .0) ((t2 .given) .0 .1 .0) ((t2 .given) .0 .1 .1 .0) ((t2 .given) .0 .1 .1 .1 .0) pre (sym (token-from .ensures) ∙ (t2 .given) .1) (read-values .result .status) (take (read-values .result .count) (read-values .result .list)) (if1 .taken) (read-values .ensures .0), read-values .ensures .1)
+    rw (with-values .ensures) (en.device-bare (now (args .text)) (args .from) (args .slash) (args .unit) 4 (args .group) (args .place) ((t2 .given) .0 .0) ((t2 .given) .0 .1 .0) ((t2 .given) .0 .1 .1 .0) ((t2 .given) .0 .1 .1 .1 .0) pre (sym (name-token .ensures .0) ∙ (t2 .given) .1) (read-values .result .status) (take (read-values .result .count) (read-values .result .list)) (if1 .taken) (read-values .ensures .0), read-values .ensures .1)
 
-port-here-requires : tie.Need-port-here-requires
-port-here-requires c κs =
-    let args = c .before .before .before .before .before .before .args in
-    let t2 = c .before .before .t2 in
-    let pre = c .before .before .before .before .before .before .pre in
-    let token-from = c .before .before .before .before .token-from in
-    let g = (onwards (now (args .text)) (args .from) ((t2 .given) .0 .0) ((t2 .given) .0 .1 .0) ((t2 .given) .0 .1 .1 .0) ((t2 .given) .0 .1 .1 .1 .0) pre (sym (token-from .ensures) ∙ (t2 .given) .1)) in (omega arith, g .2)
+name-fault-requires : tie.Need-name-fault-requires
+name-fault-requires c κs = search needs
 
 open-values-requires : tie.Need-open-values-requires
 open-values-requires c κs =
     let pre = c .before .before .before .before .before .before .before .before .pre in
     let args = c .before .before .before .before .before .before .before .before .args in
     let t2 = c .before .before .before .before .t2 in
-    let token-from = c .before .before .before .before .before .before .token-from in
-    (ahead (now (args .text)) (args .from) ((t2 .given) .0 .0) ((t2 .given) .0 .1 .0) ((t2 .given) .0 .1 .1 .0) ((t2 .given) .0 .1 .1 .1 .0) pre (sym (token-from .ensures) ∙ (t2 .given) .1)) .1
+    let name-token = c .before .before .before .before .before .before .name-token in
+    (ahead (now (args .text)) (args .from) ((t2 .given) .0 .0) ((t2 .given) .0 .1 .0) ((t2 .given) .0 .1 .1 .0) ((t2 .given) .0 .1 .1 .1 .0) pre (sym (name-token .ensures .0) ∙ (t2 .given) .1)) .1
 
 with-values-requires-2 : tie.Need-with-values-requires-2
 with-values-requires-2 c κs = search needs
@@ -72,12 +63,12 @@ returns-2 c =
     let args = c .before .before .before .before .before .before .before .before .before .before .args in
     let t2 = c .before .before .before .before .before .before .t2 in
     let pre = c .before .before .before .before .before .before .before .before .before .before .pre in
-    let token-from = c .before .before .before .before .before .before .before .before .token-from in
+    let name-token = c .before .before .before .before .before .before .before .before .name-token in
     let open-values = c .before .open-values in
     let if1 = c .before .before .before .before .if1 in
     let if2 = c .before .before .if2 in
-    let port-here = c .before .before .before .port-here in
-    rw (with-values2 .ensures) (en.device-done (now (args .text)) (args .from) (args .slash) (args .unit) 4 (args .group) (args .place) ((t2 .given) .0 .0) ((t2 .given) .0 .1 .0) ((t2 .given) .0 .1 .1 .0) ((t2 .given) .0 .1 .1 .1 .0) pre (sym (token-from .ensures) ∙ (t2 .given) .1) (open-values .result .status) (take (open-values .result .count) (open-values .result .list)) (if1 .left) (subst (λ (n : ℕ). PortHere (placed (now (args .text)) ((t2 .given) .0 .0) ((t2 .given) .0 .1 .0) ((t2 .given) .0 .1 .1 .0) ((t2 .given) .0 .1 .1 .1 .0)) (args .slash) n) (if2 .taken) (port-here .ensures)) (open-values .ensures .0), open-values .ensures .1)
+    let name-fault = c .before .before .before .name-fault in
+    rw (with-values2 .ensures) (en.device-done (now (args .text)) (args .from) (args .slash) (args .unit) 4 (args .group) (args .place) ((t2 .given) .0 .0) ((t2 .given) .0 .1 .0) ((t2 .given) .0 .1 .1 .0) ((t2 .given) .0 .1 .1 .1 .0) pre (sym (name-token .ensures .0) ∙ (t2 .given) .1) (open-values .result .status) (take (open-values .result .count) (open-values .result .list)) (if1 .left) (port-judged (now (args .text)) (args .slash) ((t2 .given) .0 .0) ((t2 .given) .0 .1 .0) ((t2 .given) .0 .1 .1 .0) ((t2 .given) .0 .1 .1 .1 .0) (name-token .result .token) (name-token .result .state) 0 ((t2 .given) .1) (name-token .ensures .1) (sym (if2 .taken) ∙ name-fault .ensures)) (open-values .ensures .0), open-values .ensures .1)
 
 no-entry-requires-2 : tie.Need-no-entry-requires-2
 no-entry-requires-2 c κs = search needs
@@ -88,8 +79,8 @@ returns-3 c =
     let args = c .before .before .before .before .before .before .args in
     let t = c .before .before .t in
     let pre = c .before .before .before .before .before .before .pre in
-    let token-from = c .before .before .before .before .token-from in
-    (rw (no-entry .ensures .0) (en.device-stops (now (args .text)) (args .from) (args .slash) (args .unit) 4 (args .group) (args .place) (t .given .0 .0) (t .given .0 .1 .0) (no-entry .result .entry) (take (no-entry .result .count) (no-entry .result .list)) pre (sym (token-from .ensures) ∙ t .given .1)), no-entry .ensures .1)
+    let name-token = c .before .before .before .before .name-token in
+    (rw (no-entry .ensures .0) (en.device-stops (now (args .text)) (args .from) (args .slash) (args .unit) 4 (args .group) (args .place) (t .given .0 .0) (t .given .0 .1 .0) (no-entry .result .entry) (take (no-entry .result .count) (no-entry .result .list)) pre (sym (name-token .ensures .0) ∙ t .given .1)), no-entry .ensures .1)
 
 returns-4 : tie.Need-returns-4
 returns-4 c =
@@ -97,24 +88,24 @@ returns-4 c =
     let args = c .before .before .before .before .before .before .before .before .before .args in
     let t2 = c .before .before .before .before .before .t2 in
     let pre = c .before .before .before .before .before .before .before .before .before .pre in
-    let token-from = c .before .before .before .before .before .before .before .token-from in
-    let port-here = c .before .before .port-here in
+    let name-token = c .before .before .before .before .before .before .before .name-token in
+    let name-fault = c .before .before .name-fault in
     let if1 = c .before .before .before .if1 in
     let if2 = c .before .if2 in
-    (rw (no-entry2 .ensures .0) (en.device-not (now (args .text)) (args .from) (args .slash) (args .unit) 4 (args .group) (args .place) ((t2 .given) .0 .0) ((t2 .given) .0 .1 .0) ((t2 .given) .0 .1 .1 .0) ((t2 .given) .0 .1 .1 .1 .0) pre (sym (token-from .ensures) ∙ (t2 .given) .1) (port-here .result) (no-entry2 .result .entry) (take (no-entry2 .result .count) (no-entry2 .result .list)) (if1 .left) (if2 .left) (port-here .ensures)), no-entry2 .ensures .1)
+    (rw (no-entry2 .ensures .0) (en.device-not (now (args .text)) (args .from) (args .slash) (args .unit) 4 (args .group) (args .place) ((t2 .given) .0 .0) ((t2 .given) .0 .1 .0) ((t2 .given) .0 .1 .1 .0) ((t2 .given) .0 .1 .1 .1 .0) pre (sym (name-token .ensures .0) ∙ (t2 .given) .1) (name-fault .result) (no-entry2 .result .entry) (take (no-entry2 .result .count) (no-entry2 .result .list)) (if1 .left) (if2 .left) (port-judged (now (args .text)) (args .slash) ((t2 .given) .0 .0) ((t2 .given) .0 .1 .0) ((t2 .given) .0 .1 .1 .0) ((t2 .given) .0 .1 .1 .1 .0) (name-token .result .token) (name-token .result .state) (name-fault .result) ((t2 .given) .1) (name-token .ensures .1) (name-fault .ensures))), no-entry2 .ensures .1)
 
 pub read-device-spec : {M : Type 1} → statement M
 read-device-spec =
     tie.close
     (tie.spec
-    token-from-requires
+    name-token-requires
     enum-known-t
     no-entry-requires
     enum-known-t-2
     read-values-requires
     with-values-requires
     returns
-    port-here-requires
+    name-fault-requires
     open-values-requires
     with-values-requires-2
     returns-2

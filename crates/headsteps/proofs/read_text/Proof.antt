@@ -7,8 +7,8 @@ use Rattle.headsteps.specs.Header.{text-stops, text-kind, text-long, tex
 use Rattle.headsteps.proofs.read_text.Statement.{statement}
 use Rattle.headsteps.proofs.read_text.Tie as tie
 
-token-from-requires : tie.Need-token-from-requires
-token-from-requires c κs = search needs
+text-from-requires : tie.Need-text-from-requires
+text-from-requires c κs = search needs
 
 enum-known-t : tie.Need-enum-known-t
 enum-known-t c = search needs
@@ -21,43 +21,43 @@ returns c =
     let args = c .before .before .before .before .before .before .before .args in
     let t2 = c .before .before .before .t2 in
     let pre = c .before .before .before .before .before .before .before .pre in
-    let token-from = c .before .before .before .before .before .token-from in
+    let text-from = c .before .before .before .before .before .text-from in
     let if1 = c .before .if1 in
     let if2 = c .if2 in
-    text-long (now (args .text)) (args .from) ((t2 .given) .0 .0) ((t2 .given) .0 .1 .0) ((t2 .given) .0 .1 .1 .0) ((t2 .given) .0 .1 .1 .1 .0) pre (sym (token-from .ensures) ∙ (t2 .given) .1) (if1 .taken) (if2 .taken)
+    text-long (now (args .text)) (args .from) ((t2 .given) .0 .0) ((t2 .given) .0 .1 .0) ((t2 .given) .0 .1 .1 .0) ((t2 .given) .0 .1 .1 .1 .0) pre (sym (text-from .ensures) ∙ (t2 .given) .1) (if1 .taken) (if2 .taken)
 
 returns-2 : tie.Need-returns-2
 returns-2 c =
     let args = c .before .before .before .before .before .before .before .args in
     let t2 = c .before .before .before .t2 in
     let pre = c .before .before .before .before .before .before .before .pre in
-    let token-from = c .before .before .before .before .before .token-from in
+    let text-from = c .before .before .before .before .before .text-from in
     let if1 = c .before .if1 in
     let if2 = c .if2 in
-    text-fine (now (args .text)) (args .from) ((t2 .given) .0 .0) ((t2 .given) .0 .1 .0) ((t2 .given) .0 .1 .1 .0) ((t2 .given) .0 .1 .1 .1 .0) pre (sym (token-from .ensures) ∙ (t2 .given) .1) (if1 .taken) (if2 .left)
+    text-fine (now (args .text)) (args .from) ((t2 .given) .0 .0) ((t2 .given) .0 .1 .0) ((t2 .given) .0 .1 .1 .0) ((t2 .given) .0 .1 .1 .1 .0) pre (sym (text-from .ensures) ∙ (t2 .given) .1) (if1 .taken) (if2 .left)
 
 returns-3 : tie.Need-returns-3
 returns-3 c =
     let args = c .before .before .before .before .before .args in
     let t = c .before .t in
     let pre = c .before .before .before .before .before .pre in
-    let token-from = c .before .before .before .token-from in
-    text-stops (now (args .text)) (args .from) (t .given .0 .0) (t .given .0 .1 .0) pre (sym (token-from .ensures) ∙ t .given .1)
+    let text-from = c .before .before .before .text-from in
+    text-stops (now (args .text)) (args .from) (t .given .0 .0) (t .given .0 .1 .0) pre (sym (text-from .ensures) ∙ t .given .1)
 
 returns-4 : tie.Need-returns-4
 returns-4 c =
     let args = c .before .before .before .before .before .before .args in
     let t2 = c .before .before .t2 in
     let pre = c .before .before .before .before .before .before .pre in
-    let token-from = c .before .before .before .before .token-from in
+    let text-from = c .before .before .before .before .text-from in
     let if1 = c .if1 in
-    text-kind (now (args .text)) (args .from) ((t2 .given) .0 .0) ((t2 .given) .0 .1 .0) ((t2 .given) .0 .1 .1 .0) ((t2 .given) .0 .1 .1 .1 .0) pre (sym (token-from .ensures) ∙ (t2 .given) .1) (if1 .left)
+    text-kind (now (args .text)) (args .from) ((t2 .given) .0 .0) ((t2 .given) .0 .1 .0) ((t2 .given) .0 .1 .1 .0) ((t2 .given) .0 .1 .1 .1 .0) pre (sym (text-from .ensures) ∙ (t2 .given) .1) (if1 .left)
 
 pub read-text-spec : {M : Type 1} → statement M
 read-text-spec =
     tie.close
     (tie.spec
-    token-from-requires
+    text-from-requires
     enum-known-t
     enum-known-t-2
     returns

@@ -1,67 +1,51 @@
 -- `nameshape::name_run` meets its contract.
 -- Assumes nothing.
-use Rattle.nameshape.specs.Shape.{nameRun, run-turn, run-end, plain-run}
-use lib.ListN.{length, drop}
+use Rattle.nameshape.specs.Shape.{nameRun, plain-run}
+use lib.ListN.{length, drop, length-drop}
+use lib.Seq.{take-all}
 use denote.Ref.{now}
 use borrow.Author.Needs.{needs}
-use mathlib.Core.Path.{_≡_, sym, _∙_}
-use Prim.Native.Nat.{_≤_, _-_}
+use native.Mathlib.Omega.{arith}
+use mathlib.Core.Path.{ap, _∙_}
+use Prim.Native.Nat.{_-_}
 use Rattle.nameshape.proofs.name_run.Statement.{statement}
 use Rattle.nameshape.proofs.name_run.Tie as tie
 
-abbrev Inv-loop : tie.InvT-loop
-Inv-loop word slash i₀ state₀ i state = (i ≤ length word) × (nameRun slash state (drop i word) ≡ nameRun slash 0 word)
-
-abbrev μ-loop : tie.MeasureT-loop
-μ-loop word slash i₀ state₀ i state = length word - i
-
-plain-run-requires : tie.Need-plain-run-requires Inv-loop μ-loop
+plain-run-requires : tie.Need-plain-run-requires
 plain-run-requires c κs = search needs
 
-state-behind-requires : tie.Need-state-behind-requires Inv-loop μ-loop
+sub-run-on : tie.Need-sub-run-on
+sub-run-on c = search needs
+
+part-run-on-start : tie.Need-part-run-on-start
+part-run-on-start c = search needs
+
+part-run-on-end : tie.Need-part-run-on-end
+part-run-on-end c = search needs
+
+state-behind-requires : tie.Need-state-behind-requires
 state-behind-requires c κs = search needs
 
-loop-holds : tie.Need-loop-holds Inv-loop μ-loop
-loop-holds c =
-    let a = c .before .before .before .args in
-    (search needs, rw (c .state-behind .ensures, c .before .plain-run .ensures .0) (plain-run (now (a .word)) (a .slash)))
+run-on-requires : tie.Need-run-on-requires
+run-on-requires c κs = search needs
 
-shared-slice-read-name-next : tie.Need-shared-slice-read-name-next Inv-loop μ-loop
-shared-slice-read-name-next c = search needs
-
-name-next-requires : tie.Need-name-next-requires Inv-loop μ-loop
-name-next-requires c κs = search needs
-
-add-i : tie.Need-add-i Inv-loop μ-loop
-add-i c = search needs
-
-loop-less : tie.Need-loop-less Inv-loop μ-loop
-loop-less c = search needs
-
-loop-again : tie.Need-loop-again Inv-loop μ-loop
-loop-again c =
-    let a = c .before .before .before .before .before .before .before .args in
-    let l = c .before .before .before .loop in
-    (search needs, sym (run-turn (now (a .word)) (a .slash) (l .state) (l .i) (search needs) ∙ rw (← c .name-next .ensures)) ∙ l .inv .1)
-
-returns : tie.Need-returns Inv-loop μ-loop
+returns : tie.Need-returns
 returns c =
     let a = c .before .before .before .before .before .args in
-    let l = c .before .loop in
-    sym (run-end (now (a .word)) (a .slash) (l .state) (l .i) (search needs)) ∙ l .inv .1
+    let n = c .before .before .before .plain-run in
+    let w = now (a .word) in
+    c .run-on .ensures
+    ∙ ap (nameRun (a .slash) (c .before .state-behind .result)) (take-all (length w - n .result) (drop (n .result) w) (simp length-drop (omega arith)))
+    ∙ rw (c .before .state-behind .ensures, n .ensures .0) (plain-run w (a .slash))
 
 pub name-run-spec : {M : Type 1} → statement M
 name-run-spec =
     tie.close
     (tie.spec
-    Inv-loop
-    μ-loop
     plain-run-requires
+    sub-run-on
+    part-run-on-start
+    part-run-on-end
     state-behind-requires
-    loop-holds
-    shared-slice-read-name-next
-    name-next-requires
-    add-i
-    loop-less
-    loop-again
+    run-on-requires
     returns)

@@ -14,15 +14,16 @@ add-peek c = search needs
 peek-requires-2 : tie.Need-peek-requires-2
 peek-requires-2 c κs = search needs
 
+starts-comment-requires : tie.Need-starts-comment-requires
+starts-comment-requires c κs = search needs
+
 returns : tie.Need-returns
-returns c = rw (← c .before .before .before .peek .ensures, eq-eqb _ 47 (c .before .before .if1 .taken), ← c .before .peek2 .ensures, eq-eqb _ 47 (c .if2 .taken))
+returns c =
+    rw (← c .before .before .before .peek .ensures, eq-eqb _ 47 (c .before .before .if1 .taken), ← c .before .peek2 .ensures) (c .starts-comment .ensures)
 
 returns-2 : tie.Need-returns-2
-returns-2 c = rw (← c .before .before .before .peek .ensures, eq-eqb _ 47 (c .before .before .if1 .taken), ← c .before .peek2 .ensures, ne-eqb _ 47 (c .if2 .left))
-
-returns-3 : tie.Need-returns-3
-returns-3 c = rw (← c .before .peek .ensures, ne-eqb _ 47 (c .if1 .left))
+returns-2 c = rw (← c .before .peek .ensures, ne-eqb _ 47 (c .if1 .left))
 
 pub comment-at-spec : {M : Type 1} → statement M
 comment-at-spec =
-    tie.close (tie.spec peek-requires add-peek peek-requires-2 returns returns-2 returns-3)
+    tie.close (tie.spec peek-requires add-peek peek-requires-2 starts-comment-requires returns returns-2)

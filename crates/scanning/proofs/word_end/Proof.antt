@@ -44,21 +44,18 @@ loop-again c =
     let k : classOf (getD s (l .i) 0) ≡ 7 = eqb-true _ _ (sym (c .before .is-plain .ensures) ∙ c .if1 .taken) in
     (search needs, search needs, l .inv .2, plain-goes s (l .state) (l .i) (l .inv .2) (search needs) k ∙ l .inv .3)
 
-add-peek : tie.Need-add-peek Inv-loop μ-loop
-add-peek c = search needs
-
-peek-requires : tie.Need-peek-requires Inv-loop μ-loop
-peek-requires c κs = search needs
+add-word-stop : tie.Need-add-word-stop Inv-loop μ-loop
+add-word-stop c = search needs
 
 word-stop-requires : tie.Need-word-stop-requires Inv-loop μ-loop
 word-stop-requires c κs =
-    let l = c .before .before .before .before .before .loop in
-    (l .inv .2, λ k. true≢false (sym (eq-eqb _ _ k) ∙ sym (c .before .before .is-plain .ensures) ∙ c .before .if1 .left))
+    let l = c .before .before .before .before .loop in
+    (l .inv .2, λ k. true≢false (sym (eq-eqb _ _ k) ∙ sym (c .before .is-plain .ensures) ∙ c .if1 .left))
 
 returns : tie.Need-returns Inv-loop μ-loop
 returns c =
-    let l = c .before .before .before .before .before .before .before .loop in
-    let s = now (c .before .before .before .before .before .before .before .before .before .args .text) in
+    let l = c .before .before .before .before .before .before .loop in
+    let s = now (c .before .before .before .before .before .before .before .before .args .text) in
     let halts : wordHalts (l .state) (getD s (l .i) 0) (getD s (l .i + 1) 0) ≡ true = cc in
     (sym (stops wordHalts wordGoes s (l .state) (l .i) (search needs) halts) ∙ l .inv .3, l .inv .1, l .inv .0)
 
@@ -70,24 +67,24 @@ word-step-requires c κs = search needs
 
 add-i-2 : tie.Need-add-i-2 Inv-loop μ-loop
 add-i-2 c =
-    let l = c .before .before .before .before .before .before .before .before .before .loop in
-    let s = now (c .before .before .before .before .before .before .before .before .before .before .before .args .text) in
+    let l = c .before .before .before .before .before .before .before .before .loop in
+    let s = now (c .before .before .before .before .before .before .before .before .before .before .args .text) in
     let halts : wordHalts (l .state) (getD s (l .i) 0) (getD s (l .i + 1) 0) ≡ false = cc in
     let g = word-goes s (l .state) (l .i) (l .inv .2) (search needs) halts in
     search needs
 
 loop-less-2 : tie.Need-loop-less-2 Inv-loop μ-loop
 loop-less-2 c =
-    let l = c .before .before .before .before .before .before .before .before .before .loop in
-    let s = now (c .before .before .before .before .before .before .before .before .before .before .before .args .text) in
+    let l = c .before .before .before .before .before .before .before .before .loop in
+    let s = now (c .before .before .before .before .before .before .before .before .before .before .args .text) in
     let halts : wordHalts (l .state) (getD s (l .i) 0) (getD s (l .i + 1) 0) ≡ false = cc in
     let g = word-goes s (l .state) (l .i) (l .inv .2) (search needs) halts in
     omega (arith, g .1, width-some (getD s (l .i) 0), c .word-step .ensures)
 
 loop-again-2 : tie.Need-loop-again-2 Inv-loop μ-loop
 loop-again-2 c =
-    let l = c .before .before .before .before .before .before .before .before .before .loop in
-    let s = now (c .before .before .before .before .before .before .before .before .before .before .before .args .text) in
+    let l = c .before .before .before .before .before .before .before .before .loop in
+    let s = now (c .before .before .before .before .before .before .before .before .before .before .args .text) in
     let halts : wordHalts (l .state) (getD s (l .i) 0) (getD s (l .i + 1) 0) ≡ false = cc in
     let g = word-goes s (l .state) (l .i) (l .inv .2) (search needs) halts in
     let n = c .before .word-next .ensures in
@@ -112,8 +109,7 @@ word-end-spec =
     add-i
     loop-less
     loop-again
-    add-peek
-    peek-requires
+    add-word-stop
     word-stop-requires
     returns
     word-next-requires

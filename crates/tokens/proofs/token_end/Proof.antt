@@ -40,8 +40,8 @@ returns-2 c =
     let found = word-token (now text) (sign .result .place) (w .result) (omega (arith, w .ensures .1, c .if2 .taken)) (sym (w .ensures .0)) (c .if2 .taken) in
     sym (ap endOf (sym (sign .ensures .0) ∙ found))
 
-token-any-requires : tie.Need-token-any-requires
-token-any-requires c κs = search needs
+text-from-requires : tie.Need-text-from-requires
+text-from-requires c κs = search needs
 
 enum-known-t : tie.Need-enum-known-t
 enum-known-t c = search needs
@@ -52,15 +52,15 @@ enum-told c = search needs
 returns-3 : tie.Need-returns-3
 returns-3 c =
     let sign = c .before .before .before .before .before .before .before .mark-from in
-    let t = c .before .before .token-any in
+    let t = c .before .before .text-from in
     sym (ap endOf (sym (sign .ensures .0) ∙ sym (t .ensures)) ∙ none (t .result) (c .before .match .keys2))
 
 returns-4 : tie.Need-returns-4
 returns-4 c =
     let sign = c .before .before .before .before .before .before .before .before .mark-from in
-    let t = c .before .before .before .token-any in
+    let t = c .before .before .before .text-from in
     sym (ap endOf (sym (sign .ensures .0) ∙ sym (t .ensures) ∙ c .before .t .given .1))
 
 pub token-end-spec : {M : Type 1} → statement M
 token-end-spec =
-    tie.close (tie.spec mark-from-requires add-result returns word-end-requires returns-2 token-any-requires enum-known-t enum-told returns-3 returns-4)
+    tie.close (tie.spec mark-from-requires add-result returns word-end-requires returns-2 text-from-requires enum-known-t enum-told returns-3 returns-4)

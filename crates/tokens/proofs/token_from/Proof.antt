@@ -31,8 +31,8 @@ returns-2 c =
     let found = word-token (now text) (sign .result .place) (w .result) (omega (arith, w .ensures .1, c .if2 .taken)) (sym (w .ensures .0)) (c .if2 .taken) in
     sym (sym (sign .ensures .0) ∙ found)
 
-token-any-requires : tie.Need-token-any-requires
-token-any-requires c κs = search needs
+text-from-requires : tie.Need-text-from-requires
+text-from-requires c κs = search needs
 
 enum-known-other : tie.Need-enum-known-other
 enum-known-other c = search needs
@@ -43,13 +43,13 @@ enum-known-other-2 c = search needs
 returns-3 : tie.Need-returns-3
 returns-3 c =
     let sign = c .before .before .before .before .before .before .before .before .mark-from in
-    let t = c .before .before .before .token-any in
+    let t = c .before .before .before .text-from in
     sym (sym (sign .ensures .0) ∙ sym (t .ensures) ∙ c .before .other .given .1)
 
 returns-4 : tie.Need-returns-4
 returns-4 c =
     let sign = c .before .before .before .before .before .before .before .before .mark-from in
-    let t = c .before .before .before .token-any in
+    let t = c .before .before .before .text-from in
     sym (sym (sign .ensures .0) ∙ sym (t .ensures) ∙ c .before .other2 .given .1)
 
 pub token-from-spec : {M : Type 1} → statement M
@@ -62,7 +62,7 @@ token-from-spec =
     word-end-requires
     sub-t15
     returns-2
-    token-any-requires
+    text-from-requires
     enum-known-other
     enum-known-other-2
     returns-3
