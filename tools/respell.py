@@ -48,7 +48,7 @@ def ghost_parts(text):
     parts = []
     for m in re.finditer(r"^\s*ghost use [^;]*;", text, re.M):
         parts.append(m.span())
-    for m in re.finditer(r"^\s*(?:requires|ensures|ghost)\b[^{;\n]*\{", text, re.M):
+    for m in re.finditer(r"^\s*(?:requires|ensures|ghost(?! use))\b[^{;\n]*\{", text, re.M):
         depth, i = 0, m.end() - 1
         while i < len(text):
             if text[i] == "{":

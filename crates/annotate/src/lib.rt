@@ -1,10 +1,10 @@
 // Annotating: a timing sheet is made from a starting sheet and a text (document 01, 'Annotating').
-ghost use Rattle.std.specs.Prelude.{◌≡◌, ◌+◌, ◌*◌, ◌/◌, ◌≤◌, length}ghost use Rattle.std.specs.Prelude.{◌≡◌, ◌+◌, ◌*◌, ◌/◌, ◌≤◌, length};
-ghost use Rattle.sheetparts.specs.Form.{check_of}ghost use Rattle.sheetparts.specs.Form.{check_of};
-ghost use Rattle.sheetparts.specs.declared.SheetCheck.TheVariants.{Good}ghost use Rattle.sheetparts.specs.declared.SheetCheck.TheVariants.{Good};
-ghost use Rattle.annotate.specs.Devices.{rows_there, any_device}ghost use Rattle.annotate.specs.Devices.{rows_there, any_device};
-ghost use Rattle.meaning.specs.Cells.{entries_before, is_refusal, TextRun}ghost use Rattle.meaning.specs.Cells.{entries_before, is_refusal, TextRun};
-ghost use Rattle.meaning.specs.Meaning.{course, cell_count, AnnotateIs}ghost use Rattle.meaning.specs.Meaning.{course, cell_count, AnnotateIs};
+ghost use Rattle.std.specs.Prelude.{◌≡◌, ◌+◌, ◌*◌, ◌/◌, ◌≤◌, length};
+ghost use Rattle.sheetparts.specs.Form.{check_of};
+ghost use Rattle.sheetparts.specs.declared.SheetCheck.TheVariants.{Good};
+ghost use Rattle.annotate.specs.Devices.{rows_there, any_device};
+ghost use Rattle.meaning.specs.Cells.{entries_before, is_refusal, TextRun};
+ghost use Rattle.meaning.specs.Meaning.{course, cell_count, AnnotateIs};
 
 use apply_cells::{Fault, Stretch};
 use apply_run::Run;

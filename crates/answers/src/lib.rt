@@ -1,7 +1,7 @@
 // The answers of the static library: what each function answers, in numbers.
-ghost use Rattle.std.specs.Prelude.{◌≡◌, false, replicate}ghost use Rattle.std.specs.Prelude.{◌≡◌, false, replicate};
-ghost use Rattle.classes.specs.Choice.{pick}ghost use Rattle.classes.specs.Choice.{pick};
-ghost use Rattle.answers.specs.Exports.{file_numbers, sheet_numbers, result_of, patched_of}ghost use Rattle.answers.specs.Exports.{file_numbers, sheet_numbers, result_of, patched_of};
+ghost use Rattle.std.specs.Prelude.{◌≡◌, false, replicate};
+ghost use Rattle.classes.specs.Choice.{pick};
+ghost use Rattle.answers.specs.Exports.{file_numbers, sheet_numbers, result_of, patched_of};
 
 use meaning::Annotated;
 use readcells::{Answer, FileRead};

@@ -1,10 +1,10 @@
 // The entries of a cell, and cells one after the other, applied to a run of arcs.
-ghost use Rattle.std.specs.Prelude.{◌≡◌, false, ◌+◌, ◌≤◌, length, get_or}ghost use Rattle.std.specs.Prelude.{◌≡◌, false, ◌+◌, ◌≤◌, length, get_or};
-ghost use Rattle.classes.specs.Choice.{pick}ghost use Rattle.classes.specs.Choice.{pick};
-ghost use Rattle.sheetlaws.specs.Sheet.{in_end}ghost use Rattle.sheetlaws.specs.Sheet.{in_end};
-ghost use Rattle.apply_instances.specs.Index.{IndexIs}ghost use Rattle.apply_instances.specs.Index.{IndexIs};
-ghost use Rattle.apply_cells.specs.declared.Fault.TheVariants.{Nothing, At}ghost use Rattle.apply_cells.specs.declared.Fault.TheVariants.{Nothing, At};
-ghost use Rattle.apply_cells.specs.Contract.{cell_in, list_in, job_of, ListReady, Left, ListRan, JobReady, JobRan, CellsReady, CellsRan}ghost use Rattle.apply_cells.specs.Contract.{cell_in, list_in, job_of, ListReady, Left, ListRan, JobReady, JobRan, CellsReady, CellsRan};
+ghost use Rattle.std.specs.Prelude.{◌≡◌, false, ◌+◌, ◌≤◌, length, get_or};
+ghost use Rattle.classes.specs.Choice.{pick};
+ghost use Rattle.sheetlaws.specs.Sheet.{in_end};
+ghost use Rattle.apply_instances.specs.Index.{IndexIs};
+ghost use Rattle.apply_cells.specs.declared.Fault.TheVariants.{Nothing, At};
+ghost use Rattle.apply_cells.specs.Contract.{cell_in, list_in, job_of, ListReady, Left, ListRan, JobReady, JobRan, CellsReady, CellsRan};
 
 use apply_entry::Task;
 use apply_instances::Instances;

@@ -1,6 +1,6 @@
 // The buckets of an index: of a text, and of a name without its last component.
-ghost use Rattle.std.specs.Prelude.{◌≡◌, ◌<◌}ghost use Rattle.std.specs.Prelude.{◌≡◌, ◌<◌};
-ghost use Rattle.apply_chains.specs.Buckets.{bucket_of, below_bucket}ghost use Rattle.apply_chains.specs.Buckets.{bucket_of, below_bucket};
+ghost use Rattle.std.specs.Prelude.{◌≡◌, ◌<◌};
+ghost use Rattle.apply_chains.specs.Buckets.{bucket_of, below_bucket};
 
 // How many buckets there are.
 const BUCKETS: usize = 4096;

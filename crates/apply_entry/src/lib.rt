@@ -1,10 +1,10 @@
 // One entry, applied to a run of arcs: in the instance that its cell names, or in every instance of the cell's type.
-ghost use Rattle.std.specs.Prelude.{◌≡◌, ◌+◌, ◌≤◌, length, get_or, false}ghost use Rattle.std.specs.Prelude.{◌≡◌, ◌+◌, ◌≤◌, length, get_or, false};
-ghost use Rattle.classes.specs.Choice.{pick}ghost use Rattle.classes.specs.Choice.{pick};
-ghost use Rattle.sheetlaws.specs.Sheet.{in_end}ghost use Rattle.sheetlaws.specs.Sheet.{in_end};
-ghost use Rattle.apply_instances.specs.Index.{IndexIs}ghost use Rattle.apply_instances.specs.Index.{IndexIs};
-ghost use Rattle.amounts.specs.Amounts.{expanded}ghost use Rattle.amounts.specs.Amounts.{expanded};
-ghost use Rattle.apply_entry.specs.Contract.{ListReady, Listed, TaskReady, Still, AppliedIn, AppliedEvery, AppliedTask}ghost use Rattle.apply_entry.specs.Contract.{ListReady, Listed, TaskReady, Still, AppliedIn, AppliedEvery, AppliedTask};
+ghost use Rattle.std.specs.Prelude.{◌≡◌, ◌+◌, ◌≤◌, length, get_or, false};
+ghost use Rattle.classes.specs.Choice.{pick};
+ghost use Rattle.sheetlaws.specs.Sheet.{in_end};
+ghost use Rattle.apply_instances.specs.Index.{IndexIs};
+ghost use Rattle.amounts.specs.Amounts.{expanded};
+ghost use Rattle.apply_entry.specs.Contract.{ListReady, Listed, TaskReady, Still, AppliedIn, AppliedEvery, AppliedTask};
 
 use apply_instances::{Instances, Spot};
 use apply_names::Key;

@@ -1,12 +1,12 @@
 // Which records an entry addresses in an instance, one after the other, among the arcs of a run.
-ghost use Rattle.std.specs.Prelude.{◌≡◌, true, false, ℕ, ◌+◌, ◌*◌, ◌/◌, ◌≤◌, ◌<◌, length}ghost use Rattle.std.specs.Prelude.{◌≡◌, true, false, ℕ, ◌+◌, ◌*◌, ◌/◌, ◌≤◌, ◌<◌, length};
-ghost use Rattle.sheet.specs.Search.{stride_of}ghost use Rattle.sheet.specs.Search.{stride_of};
-ghost use Rattle.sheetlaws.specs.Sheet.{ar_next, place}ghost use Rattle.sheetlaws.specs.Sheet.{ar_next, place};
-ghost use Rattle.apply_names.specs.Wanted.{wanted_key}ghost use Rattle.apply_names.specs.Wanted.{wanted_key};
-ghost use Rattle.apply_hits.specs.Index.{RunLies, RunReady, KeyRoom, NotBefore, HitReady, HitIs, HitBehind, if_wanted, device_bucket}ghost use Rattle.apply_hits.specs.Index.{RunLies, RunReady, KeyRoom, NotBefore, HitReady, HitIs, HitBehind, if_wanted, device_bucket};
-ghost use Rattle.apply_hits.specs.Walk.{AllBefore, MarkBefore}ghost use Rattle.apply_hits.specs.Walk.{AllBefore, MarkBefore};
-ghost use Rattle.apply_hits.specs.Making.{MarkRun, ClearHeads, PathsNoted, ChainReady, ChainIs, IndexIs, chained_as}ghost use Rattle.apply_hits.specs.Making.{MarkRun, ClearHeads, PathsNoted, ChainReady, ChainIs, IndexIs, chained_as};
-ghost use Rattle.apply_hits.specs.Hits.{WalkReady, WalkIs, LinkReady, LinkIs}ghost use Rattle.apply_hits.specs.Hits.{WalkReady, WalkIs, LinkReady, LinkIs};
+ghost use Rattle.std.specs.Prelude.{◌≡◌, true, false, ℕ, ◌+◌, ◌*◌, ◌/◌, ◌≤◌, ◌<◌, length};
+ghost use Rattle.sheet.specs.Search.{stride_of};
+ghost use Rattle.sheetlaws.specs.Sheet.{ar_next, place};
+ghost use Rattle.apply_names.specs.Wanted.{wanted_key};
+ghost use Rattle.apply_hits.specs.Index.{RunLies, RunReady, KeyRoom, NotBefore, HitReady, HitIs, HitBehind, if_wanted, device_bucket};
+ghost use Rattle.apply_hits.specs.Walk.{AllBefore, MarkBefore};
+ghost use Rattle.apply_hits.specs.Making.{MarkRun, ClearHeads, PathsNoted, ChainReady, ChainIs, IndexIs, chained_as};
+ghost use Rattle.apply_hits.specs.Hits.{WalkReady, WalkIs, LinkReady, LinkIs};
 
 use apply_names::Key;
 use apply_run::Run;

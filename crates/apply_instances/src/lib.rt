@@ -1,16 +1,16 @@
 // The instances of a sheet, by number, by path and by type, over one lent table.
-ghost use Rattle.std.specs.Prelude.{◌≡◌, true, false, ℕ, ◌+◌, ◌*◌, ◌/◌, ◌≤◌, ◌<◌, ltb, eqb, length, get_or}ghost use Rattle.std.specs.Prelude.{◌≡◌, true, false, ℕ, ◌+◌, ◌*◌, ◌/◌, ◌≤◌, ◌<◌, ltb, eqb, length, get_or};
-ghost use Rattle.classes.specs.Choice.{pick}ghost use Rattle.classes.specs.Choice.{pick};
-ghost use Rattle.names.specs.Order.{cmp}ghost use Rattle.names.specs.Order.{cmp};
-ghost use Rattle.names.specs.Name.{canon}ghost use Rattle.names.specs.Name.{canon};
-ghost use Rattle.sheetparts.specs.Form.{path_at}ghost use Rattle.sheetparts.specs.Form.{path_at};
-ghost use Rattle.sheetlaws.specs.Sheet.{in_end}ghost use Rattle.sheetlaws.specs.Sheet.{in_end};
-ghost use Rattle.sheet.specs.Search.{stride_of, put_mark, marked, NotBeyond}ghost use Rattle.sheet.specs.Search.{stride_of, put_mark, marked, NotBeyond};
-ghost use Rattle.sheet.specs.Find.{find_instance, InsGood}ghost use Rattle.sheet.specs.Find.{find_instance, InsGood};
-ghost use Rattle.meaning.specs.Whom.{whom_of, InSheet}ghost use Rattle.meaning.specs.Whom.{whom_of, InSheet};
-ghost use Rattle.apply_instances.specs.Chains.{Noted}ghost use Rattle.apply_instances.specs.Chains.{Noted};
-ghost use Rattle.apply_instances.specs.Buckets.{bucket_of, spot_of, type_bucket}ghost use Rattle.apply_instances.specs.Buckets.{bucket_of, spot_of, type_bucket};
-ghost use Rattle.apply_instances.specs.Index.{head_at, TypeChains, IndexIs, Stands, NearFrom, NearSpot, TypedFrom, TypedSpot}ghost use Rattle.apply_instances.specs.Index.{head_at, TypeChains, IndexIs, Stands, NearFrom, NearSpot, TypedFrom, TypedSpot};
+ghost use Rattle.std.specs.Prelude.{◌≡◌, true, false, ℕ, ◌+◌, ◌*◌, ◌/◌, ◌≤◌, ◌<◌, ltb, eqb, length, get_or};
+ghost use Rattle.classes.specs.Choice.{pick};
+ghost use Rattle.names.specs.Order.{cmp};
+ghost use Rattle.names.specs.Name.{canon};
+ghost use Rattle.sheetparts.specs.Form.{path_at};
+ghost use Rattle.sheetlaws.specs.Sheet.{in_end};
+ghost use Rattle.sheet.specs.Search.{stride_of, put_mark, marked, NotBeyond};
+ghost use Rattle.sheet.specs.Find.{find_instance, InsGood};
+ghost use Rattle.meaning.specs.Whom.{whom_of, InSheet};
+ghost use Rattle.apply_instances.specs.Chains.{Noted};
+ghost use Rattle.apply_instances.specs.Buckets.{bucket_of, spot_of, type_bucket};
+ghost use Rattle.apply_instances.specs.Index.{head_at, TypeChains, IndexIs, Stands, NearFrom, NearSpot, TypedFrom, TypedSpot};
 
 use grammar::Cell;
 use meaning::Whom;

@@ -1,10 +1,10 @@
 // An entry's full names in an instance, made once, canonical, in a lent room: what is asked of a sheet's records is then asked of plain
 // texts (document 01, 'Annotating').
-ghost use Rattle.std.specs.Prelude.{◌≡◌, Bool, ◌+◌, ◌≤◌, leb, length}ghost use Rattle.std.specs.Prelude.{◌≡◌, Bool, ◌+◌, ◌≤◌, leb, length};
-ghost use Rattle.names.specs.Name.{canon, full}ghost use Rattle.names.specs.Name.{canon, full};
-ghost use Rattle.sheetparts.specs.Form.{key_at, cmp_key}ghost use Rattle.sheetparts.specs.Form.{key_at, cmp_key};
-ghost use Rattle.sheetlaws.specs.Sheet.{ar_next}ghost use Rattle.sheetlaws.specs.Sheet.{ar_next};
-ghost use Rattle.apply_names.specs.Wanted.{Puts, wanted_key, device_asks, no_port, first_name, second_name, is_long, KeyIs}ghost use Rattle.apply_names.specs.Wanted.{Puts, wanted_key, device_asks, no_port, first_name, second_name, is_long, KeyIs};
+ghost use Rattle.std.specs.Prelude.{◌≡◌, Bool, ◌+◌, ◌≤◌, leb, length};
+ghost use Rattle.names.specs.Name.{canon, full};
+ghost use Rattle.sheetparts.specs.Form.{key_at, cmp_key};
+ghost use Rattle.sheetlaws.specs.Sheet.{ar_next};
+ghost use Rattle.apply_names.specs.Wanted.{Puts, wanted_key, device_asks, no_port, first_name, second_name, is_long, KeyIs};
 
 use grammar::Entry;
 

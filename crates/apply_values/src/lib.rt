@@ -1,6 +1,6 @@
 // The eighteen values of a record, judged and changed by an entry's expanded list; a slot that is not in question stays out of account.
-ghost use Rattle.std.specs.Prelude.{◌≡◌, ◌+◌, ◌*◌, ◌≤◌, ◌<◌, length}ghost use Rattle.std.specs.Prelude.{◌≡◌, ◌+◌, ◌*◌, ◌≤◌, ◌<◌, length};
-ghost use Rattle.apply_values.specs.Values.{slot_refusal, recordRefusal, slot_written, recordWritten, recordApplied}ghost use Rattle.apply_values.specs.Values.{slot_refusal, recordRefusal, slot_written, recordWritten, recordApplied};
+ghost use Rattle.std.specs.Prelude.{◌≡◌, ◌+◌, ◌*◌, ◌≤◌, ◌<◌, length};
+ghost use Rattle.apply_values.specs.Values.{slot_refusal, recordRefusal, slot_written, recordWritten, recordApplied};
 
 const EMPTY: u64 = 0x8000_0000_0000_0000;
 

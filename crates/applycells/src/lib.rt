@@ -1,12 +1,12 @@
 // The entries of a cell, and the cells of a text, applied to a sheet one after the other.
-ghost use Rattle.std.specs.Prelude.{◌≡◌, ◌+◌, ◌*◌, ◌≤◌, length, get_or}ghost use Rattle.std.specs.Prelude.{◌≡◌, ◌+◌, ◌*◌, ◌≤◌, length, get_or};
-ghost use Rattle.sheet.specs.Find.{InstanceSearch}ghost use Rattle.sheet.specs.Find.{InstanceSearch};
-ghost use Rattle.bytype.specs.ByType.{IndexReady}ghost use Rattle.bytype.specs.ByType.{IndexReady};
-ghost use Rattle.byend.specs.Ends.{EndsReady}ghost use Rattle.byend.specs.Ends.{EndsReady};
-ghost use Rattle.applying.specs.Ready.{Ready}ghost use Rattle.applying.specs.Ready.{Ready};
-ghost use Rattle.meaning.specs.Whom.{InSheet}ghost use Rattle.meaning.specs.Whom.{InSheet};
-ghost use Rattle.meaning.specs.Entries.{refusal_for, applied_for, EntriesRun}ghost use Rattle.meaning.specs.Entries.{refusal_for, applied_for, EntriesRun};
-ghost use Rattle.meaning.specs.Cells.{entries_before, CellRun, CellsRun}ghost use Rattle.meaning.specs.Cells.{entries_before, CellRun, CellsRun};
+ghost use Rattle.std.specs.Prelude.{◌≡◌, ◌+◌, ◌*◌, ◌≤◌, length, get_or};
+ghost use Rattle.sheet.specs.Find.{InstanceSearch};
+ghost use Rattle.bytype.specs.ByType.{IndexReady};
+ghost use Rattle.byend.specs.Ends.{EndsReady};
+ghost use Rattle.applying.specs.Ready.{Ready};
+ghost use Rattle.meaning.specs.Whom.{InSheet};
+ghost use Rattle.meaning.specs.Entries.{refusal_for, applied_for, EntriesRun};
+ghost use Rattle.meaning.specs.Cells.{entries_before, CellRun, CellsRun};
 
 use entryarcs::Plan;
 use meaning::{Annotated, Whom};

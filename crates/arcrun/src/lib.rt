@@ -1,12 +1,12 @@
 // One arc and the entries of two texts, the old file and the incoming cell: its 18 values run through them. `side` tells which text a table
 // belongs to: false the file, true the incoming cell.
-ghost use Rattle.std.specs.Prelude.{◌≡◌, [], ◌∷◌, ◌+◌, ◌≤◌, ◌<◌, length}ghost use Rattle.std.specs.Prelude.{◌≡◌, [], ◌∷◌, ◌+◌, ◌≤◌, ◌<◌, length};
-ghost use Rattle.classes.specs.Choice.{pick}ghost use Rattle.classes.specs.Choice.{pick};
-ghost use Rattle.sheetlaws.specs.Sheet.{ar_next}ghost use Rattle.sheetlaws.specs.Sheet.{ar_next};
-ghost use Rattle.sheet.specs.Find.{InstanceSearch}ghost use Rattle.sheet.specs.Find.{InstanceSearch};
-ghost use Rattle.meaning.specs.Whom.{InSheet}ghost use Rattle.meaning.specs.Whom.{InSheet};
-ghost use Rattle.patching.specs.Scratch.{masked, masked_word}ghost use Rattle.patching.specs.Scratch.{masked, masked_word};
-ghost use Rattle.arcrun.specs.Run.{entry_number, entry_state}ghost use Rattle.arcrun.specs.Run.{entry_number, entry_state};
+ghost use Rattle.std.specs.Prelude.{◌≡◌, [], ◌∷◌, ◌+◌, ◌≤◌, ◌<◌, length};
+ghost use Rattle.classes.specs.Choice.{pick};
+ghost use Rattle.sheetlaws.specs.Sheet.{ar_next};
+ghost use Rattle.sheet.specs.Find.{InstanceSearch};
+ghost use Rattle.meaning.specs.Whom.{InSheet};
+ghost use Rattle.patching.specs.Scratch.{masked, masked_word};
+ghost use Rattle.arcrun.specs.Run.{entry_number, entry_state};
 
 use entryarcs::Plan;
 use meaning::Whom;

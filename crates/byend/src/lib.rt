@@ -1,10 +1,10 @@
 // An index of a sheet's arcs by their second end without its last component, made once where a text has a DEVICE.
-ghost use Rattle.std.specs.Prelude.{◌≡◌, true, false, ℕ, ◌+◌, ◌≤◌, ◌<◌, length, get_or}ghost use Rattle.std.specs.Prelude.{◌≡◌, true, false, ℕ, ◌+◌, ◌≤◌, ◌<◌, length, get_or};
-ghost use Rattle.sheetlaws.specs.Sheet.{place}ghost use Rattle.sheetlaws.specs.Sheet.{place};
-ghost use Rattle.sheet.specs.Find.{ArcsGood}ghost use Rattle.sheet.specs.Find.{ArcsGood};
-ghost use Rattle.bytype.specs.Chains.{Noted, Chained}ghost use Rattle.bytype.specs.Chains.{Noted, Chained};
-ghost use Rattle.byend.specs.Ends.{below_bucket, end_bucket, end_place, EndsIndexed, EndsReady}ghost use Rattle.byend.specs.Ends.{below_bucket, end_bucket, end_place, EndsIndexed, EndsReady};
-ghost use Rattle.byend.specs.Ports.{is_plain, plain_from, open_end}ghost use Rattle.byend.specs.Ports.{is_plain, plain_from, open_end};
+ghost use Rattle.std.specs.Prelude.{◌≡◌, true, false, ℕ, ◌+◌, ◌≤◌, ◌<◌, length, get_or};
+ghost use Rattle.sheetlaws.specs.Sheet.{place};
+ghost use Rattle.sheet.specs.Find.{ArcsGood};
+ghost use Rattle.bytype.specs.Chains.{Noted, Chained};
+ghost use Rattle.byend.specs.Ends.{below_bucket, end_bucket, end_place, EndsIndexed, EndsReady};
+ghost use Rattle.byend.specs.Ports.{is_plain, plain_from, open_end};
 
 // For how many arcs the table has room: more than a sheet has.
 const MOST: usize = 131071;

@@ -1,8 +1,8 @@
 // An index of a sheet's instances by their type, made once: from a type to the instances in its bucket, one after the other.
-ghost use Rattle.std.specs.Prelude.{◌≡◌, ℕ, ◌+◌, ◌*◌, ◌≤◌, ◌<◌, length, get_or}ghost use Rattle.std.specs.Prelude.{◌≡◌, ℕ, ◌+◌, ◌*◌, ◌≤◌, ◌<◌, length, get_or};
-ghost use Rattle.sheet.specs.Find.{InsGood}ghost use Rattle.sheet.specs.Find.{InsGood};
-ghost use Rattle.bytype.specs.Chains.{Noted, head_place, Chained}ghost use Rattle.bytype.specs.Chains.{Noted, head_place, Chained};
-ghost use Rattle.bytype.specs.ByType.{bucket_of, type_bucket, spot_of, link_place, spot_place, Indexed, IndexReady}ghost use Rattle.bytype.specs.ByType.{bucket_of, type_bucket, spot_of, link_place, spot_place, Indexed, IndexReady};
+ghost use Rattle.std.specs.Prelude.{◌≡◌, ℕ, ◌+◌, ◌*◌, ◌≤◌, ◌<◌, length, get_or};
+ghost use Rattle.sheet.specs.Find.{InsGood};
+ghost use Rattle.bytype.specs.Chains.{Noted, head_place, Chained};
+ghost use Rattle.bytype.specs.ByType.{bucket_of, type_bucket, spot_of, link_place, spot_place, Indexed, IndexReady};
 
 // How many buckets there are. Their heads stand first in the table.
 const BUCKETS: usize = 4096;

@@ -1,6 +1,6 @@
 // The reader of what stands at the head of a cell: its type and its instance.
-ghost use Rattle.std.specs.Prelude.{◌+◌, ◌-◌, ◌≤◌, length}ghost use Rattle.std.specs.Prelude.{◌+◌, ◌-◌, ◌≤◌, length};
-ghost use Rattle.cellhead.specs.Heads.{InstanceRead, PathBehind, HeadRead}ghost use Rattle.cellhead.specs.Heads.{InstanceRead, PathBehind, HeadRead};
+ghost use Rattle.std.specs.Prelude.{◌+◌, ◌-◌, ◌≤◌, length};
+ghost use Rattle.cellhead.specs.Heads.{InstanceRead, PathBehind, HeadRead};
 
 use grammar::{Mark, ReadName};
 use headsteps::{expect_key, read_text, take_next, take_opened};

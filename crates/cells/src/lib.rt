@@ -1,11 +1,11 @@
 // The readers of cells. They go through a text twice: first to judge it, with fill false, when nothing is written; then to fill the tables.
-ghost use Rattle.std.specs.Prelude.{◌≡◌, true, false, ◌+◌, ◌*◌, ◌-◌, ◌≤◌, ◌<◌, length, take}ghost use Rattle.std.specs.Prelude.{◌≡◌, true, false, ◌+◌, ◌*◌, ◌-◌, ◌≤◌, ◌<◌, length, take};
-ghost use Rattle.classes.specs.Choice.{pick}ghost use Rattle.classes.specs.Choice.{pick};
-ghost use Rattle.rules.specs.Promises.{Listable, item}ghost use Rattle.rules.specs.Promises.{Listable, item};
-ghost use Rattle.tables.specs.Layout.{entry_row}ghost use Rattle.tables.specs.Layout.{entry_row};
-ghost use Rattle.tables.specs.Pastes.{put}ghost use Rattle.tables.specs.Pastes.{put};
-ghost use Rattle.rules.specs.Bodies.{Either, Turned, OpenTurned, shut_by, item_place}ghost use Rattle.rules.specs.Bodies.{Either, Turned, OpenTurned, shut_by, item_place};
-ghost use Rattle.cells.specs.Cells.{Sighted, group_of, BodyRead}ghost use Rattle.cells.specs.Cells.{Sighted, group_of, BodyRead};
+ghost use Rattle.std.specs.Prelude.{◌≡◌, true, false, ◌+◌, ◌*◌, ◌-◌, ◌≤◌, ◌<◌, length, take};
+ghost use Rattle.classes.specs.Choice.{pick};
+ghost use Rattle.rules.specs.Promises.{Listable, item};
+ghost use Rattle.tables.specs.Layout.{entry_row};
+ghost use Rattle.tables.specs.Pastes.{put};
+ghost use Rattle.rules.specs.Bodies.{Either, Turned, OpenTurned, shut_by, item_place};
+ghost use Rattle.cells.specs.Cells.{Sighted, group_of, BodyRead};
 
 use entries::{read_check, read_delay};
 use grammar::{Keyword, ReadBody, ReadEntry, Status, Turn, Within};

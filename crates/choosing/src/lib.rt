@@ -1,8 +1,8 @@
 // The marked arcs get seats in the sheet's order, up to 4,096 at a time.
-ghost use Rattle.std.specs.Prelude.{◌≡◌, ◌+◌, ◌≤◌, ◌<◌, length}ghost use Rattle.std.specs.Prelude.{◌≡◌, ◌+◌, ◌≤◌, ◌<◌, length};
-ghost use Rattle.sheetlaws.specs.Sheet.{place}ghost use Rattle.sheetlaws.specs.Sheet.{place};
-ghost use Rattle.sheet.specs.Find.{ArcsGood}ghost use Rattle.sheet.specs.Find.{ArcsGood};
-ghost use Rattle.marking.specs.Choosing.{Chose}ghost use Rattle.marking.specs.Choosing.{Chose};
+ghost use Rattle.std.specs.Prelude.{◌≡◌, ◌+◌, ◌≤◌, ◌<◌, length};
+ghost use Rattle.sheetlaws.specs.Sheet.{place};
+ghost use Rattle.sheet.specs.Find.{ArcsGood};
+ghost use Rattle.marking.specs.Choosing.{Chose};
 
 use entryarcs::Plan;
 

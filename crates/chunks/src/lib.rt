@@ -1,7 +1,7 @@
 // The arcs in question part by part: first judged, then written.
-ghost use Rattle.std.specs.Prelude.{◌≡◌, length}ghost use Rattle.std.specs.Prelude.{◌≡◌, length};
-ghost use Rattle.swaparcs.specs.Loops.{ArcsRan, ArcsWritten}ghost use Rattle.swaparcs.specs.Loops.{ArcsRan, ArcsWritten};
-ghost use Rattle.seating.specs.Seating.{SwapFits, MarksCover}ghost use Rattle.seating.specs.Seating.{SwapFits, MarksCover};
+ghost use Rattle.std.specs.Prelude.{◌≡◌, length};
+ghost use Rattle.swaparcs.specs.Loops.{ArcsRan, ArcsWritten};
+ghost use Rattle.seating.specs.Seating.{SwapFits, MarksCover};
 
 use arcrun::Least;
 use entryarcs::Plan;

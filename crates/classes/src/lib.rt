@@ -1,8 +1,8 @@
 // The class of a byte, by comparisons against document 01's ranges, in the order and the words of its 'Bytes and words'; and the questions that
 // the loops over a text ask of every byte, each about a single class.
-ghost use Rattle.std.specs.Prelude.{◌≡◌, eqb}ghost use Rattle.std.specs.Prelude.{◌≡◌, eqb};
-ghost use Rattle.classes.specs.Choice.{within}ghost use Rattle.classes.specs.Choice.{within};
-ghost use Rattle.classes.specs.Classes.{is_legal, is_letter, is_digit, class_of, mark_of}ghost use Rattle.classes.specs.Classes.{is_legal, is_letter, is_digit, class_of, mark_of};
+ghost use Rattle.std.specs.Prelude.{◌≡◌, eqb};
+ghost use Rattle.classes.specs.Choice.{within};
+ghost use Rattle.classes.specs.Classes.{is_legal, is_letter, is_digit, class_of, mark_of};
 
 pub fn class_of(byte: u8) -> u8
     ensures { result ≡ class_of byte }

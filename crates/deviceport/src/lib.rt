@@ -1,8 +1,8 @@
 // Which DEVICE entries the index of second ends serves, and the arc at a place of its chains.
-ghost use Rattle.std.specs.Prelude.{◌≡◌, true, false, ◌≤◌, ◌<◌, length, get_or}ghost use Rattle.std.specs.Prelude.{◌≡◌, true, false, ◌≤◌, ◌<◌, length, get_or};
-ghost use Rattle.sheetlaws.specs.Sheet.{in_end, place}ghost use Rattle.sheetlaws.specs.Sheet.{in_end, place};
-ghost use Rattle.sheet.specs.Find.{ArcSearch}ghost use Rattle.sheet.specs.Find.{ArcSearch};
-ghost use Rattle.deviceport.specs.ByPath.{by_path}ghost use Rattle.deviceport.specs.ByPath.{by_path};
+ghost use Rattle.std.specs.Prelude.{◌≡◌, true, false, ◌≤◌, ◌<◌, length, get_or};
+ghost use Rattle.sheetlaws.specs.Sheet.{in_end, place};
+ghost use Rattle.sheet.specs.Find.{ArcSearch};
+ghost use Rattle.deviceport.specs.ByPath.{by_path};
 
 use grammar::Entry;
 

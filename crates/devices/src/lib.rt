@@ -1,10 +1,10 @@
 // An entry in one instance, where DEVICE finds its arcs by the index of the arcs by their second end.
-ghost use Rattle.std.specs.Prelude.{◌≡◌, true, false, ◌≤◌, ◌<◌}ghost use Rattle.std.specs.Prelude.{◌≡◌, true, false, ◌≤◌, ◌<◌};
-ghost use Rattle.sheet.specs.Find.{ArcSearch}ghost use Rattle.sheet.specs.Find.{ArcSearch};
-ghost use Rattle.byend.specs.Ends.{EndsIndexed, EndsReady}ghost use Rattle.byend.specs.Ends.{EndsIndexed, EndsReady};
-ghost use Rattle.applying.specs.Bytes.{device_refusal, device_written, refusal_in, written_in, applied_in}ghost use Rattle.applying.specs.Bytes.{device_refusal, device_written, refusal_in, written_in, applied_in};
-ghost use Rattle.applying.specs.Ready.{InReady}ghost use Rattle.applying.specs.Ready.{InReady};
-ghost use Rattle.deviceport.specs.ByPath.{by_path}ghost use Rattle.deviceport.specs.ByPath.{by_path};
+ghost use Rattle.std.specs.Prelude.{◌≡◌, true, false, ◌≤◌, ◌<◌};
+ghost use Rattle.sheet.specs.Find.{ArcSearch};
+ghost use Rattle.byend.specs.Ends.{EndsIndexed, EndsReady};
+ghost use Rattle.applying.specs.Bytes.{device_refusal, device_written, refusal_in, written_in, applied_in};
+ghost use Rattle.applying.specs.Ready.{InReady};
+ghost use Rattle.deviceport.specs.ByPath.{by_path};
 
 use entryarcs::Plan;
 use grammar::Entry;

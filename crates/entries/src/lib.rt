@@ -1,12 +1,12 @@
 // The readers of entries: recursive descent over the tokens of a text. Each contract is an equation between readings
 // (rules/specs/Promises.antt). Every reader takes the text and the place from which to read.
-ghost use Rattle.std.specs.Prelude.{◌≡◌, true, false, [], ◌∷◌, ◌-◌, ◌≤◌, ◌<◌, length, take}ghost use Rattle.std.specs.Prelude.{◌≡◌, true, false, [], ◌∷◌, ◌-◌, ◌≤◌, ◌<◌, length, take};
-ghost use Rattle.grammar.specs.Ll.{non}ghost use Rattle.grammar.specs.Ll.{non};
-ghost use Rattle.grammar.specs.Grammar.{second, iopath_tail, interconnect_tail, port_tail, two_ends, device, delay, check, end?}ghost use Rattle.grammar.specs.Grammar.{second, iopath_tail, interconnect_tail, port_tail, two_ends, device, delay, check, end?};
-ghost use Rattle.grammar.specs.Meaning.{wrongly}ghost use Rattle.grammar.specs.Meaning.{wrongly};
-ghost use Rattle.rules.specs.Promises.{ValuesFrom, Entered, Listable, with_values}ghost use Rattle.rules.specs.Promises.{ValuesFrom, Entered, Listable, with_values};
-ghost use Rattle.rules.specs.Entries.{check_values, SecondValue, delay_tail, check_tail}ghost use Rattle.rules.specs.Entries.{check_values, SecondValue, delay_tail, check_tail};
-ghost use Rattle.classes.specs.Choice.{pick}ghost use Rattle.classes.specs.Choice.{pick};
+ghost use Rattle.std.specs.Prelude.{◌≡◌, true, false, [], ◌∷◌, ◌-◌, ◌≤◌, ◌<◌, length, take};
+ghost use Rattle.grammar.specs.Ll.{non};
+ghost use Rattle.grammar.specs.Grammar.{second, iopath_tail, interconnect_tail, port_tail, two_ends, device, delay, check, end?};
+ghost use Rattle.grammar.specs.Meaning.{wrongly};
+ghost use Rattle.rules.specs.Promises.{ValuesFrom, Entered, Listable, with_values};
+ghost use Rattle.rules.specs.Entries.{check_values, SecondValue, delay_tail, check_tail};
+ghost use Rattle.classes.specs.Choice.{pick};
 
 use grammar::{
     Amount, Entry, Mark, ReadEnd, ReadEntry, ReadName, ReadValue, Status, Value, Values,

@@ -1,11 +1,11 @@
 // Which arcs an entry means on a sheet: the arc of its names, the arcs of a DEVICE, the instances of a type.
-ghost use Rattle.std.specs.Prelude.{◌≡◌, true, false, ◌+◌, ◌≤◌, ◌<◌, length}ghost use Rattle.std.specs.Prelude.{◌≡◌, true, false, ◌+◌, ◌≤◌, ◌<◌, length};
-ghost use Rattle.names.specs.Order.{same_text}ghost use Rattle.names.specs.Order.{same_text};
-ghost use Rattle.sheetparts.specs.Form.{type_at}ghost use Rattle.sheetparts.specs.Form.{type_at};
-ghost use Rattle.sheetlaws.specs.Sheet.{in_end, ar_next}ghost use Rattle.sheetlaws.specs.Sheet.{in_end, ar_next};
-ghost use Rattle.sheet.specs.Find.{ArcSearch}ghost use Rattle.sheet.specs.Find.{ArcSearch};
-ghost use Rattle.applying.specs.Bytes.{device_hit, arc_of, device_refusal, device_written}ghost use Rattle.applying.specs.Bytes.{device_hit, arc_of, device_refusal, device_written};
-ghost use Rattle.applying.specs.Ready.{InReady}ghost use Rattle.applying.specs.Ready.{InReady};
+ghost use Rattle.std.specs.Prelude.{◌≡◌, true, false, ◌+◌, ◌≤◌, ◌<◌, length};
+ghost use Rattle.names.specs.Order.{same_text};
+ghost use Rattle.sheetparts.specs.Form.{type_at};
+ghost use Rattle.sheetlaws.specs.Sheet.{in_end, ar_next};
+ghost use Rattle.sheet.specs.Find.{ArcSearch};
+ghost use Rattle.applying.specs.Bytes.{device_hit, arc_of, device_refusal, device_written};
+ghost use Rattle.applying.specs.Ready.{InReady};
 
 use grammar::Entry;
 use sheet::Found;

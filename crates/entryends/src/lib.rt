@@ -1,8 +1,8 @@
 // The readers of an entry's ends: ports, with an edge or without.
-ghost use Rattle.std.specs.Prelude.{true, ◌-◌, ◌≤◌, ◌<◌, length}ghost use Rattle.std.specs.Prelude.{true, ◌-◌, ◌≤◌, ◌<◌, length};
-ghost use Rattle.tokens.specs.Stream.{placed}ghost use Rattle.tokens.specs.Stream.{placed};
-ghost use Rattle.grammar.specs.Grammar.{second}ghost use Rattle.grammar.specs.Grammar.{second};
-ghost use Rattle.rules.specs.Promises.{ReadsPort, EdgeIs, ReadsEnd, ReadsEdged}ghost use Rattle.rules.specs.Promises.{ReadsPort, EdgeIs, ReadsEnd, ReadsEdged};
+ghost use Rattle.std.specs.Prelude.{true, ◌-◌, ◌≤◌, ◌<◌, length};
+ghost use Rattle.tokens.specs.Stream.{placed};
+ghost use Rattle.grammar.specs.Grammar.{second};
+ghost use Rattle.rules.specs.Promises.{ReadsPort, EdgeIs, ReadsEnd, ReadsEdged};
 
 use grammar::{EdgeHere, Mark, ReadEnd, ReadName};
 use nametokens::{name_fault, name_token};

@@ -1,13 +1,13 @@
 // The entries of a cell, run through all seats or through the one that is found.
-ghost use Rattle.std.specs.Prelude.{◌≡◌, false, ◌+◌, ◌*◌, ◌≤◌, ◌<◌, length, eqb}ghost use Rattle.std.specs.Prelude.{◌≡◌, false, ◌+◌, ◌*◌, ◌≤◌, ◌<◌, length, eqb};
-ghost use Rattle.classes.specs.Choice.{pick}ghost use Rattle.classes.specs.Choice.{pick};
-ghost use Rattle.sheetlaws.specs.Sheet.{in_end}ghost use Rattle.sheetlaws.specs.Sheet.{in_end};
-ghost use Rattle.sheet.specs.Find.{InstanceSearch, ArcSearch}ghost use Rattle.sheet.specs.Find.{InstanceSearch, ArcSearch};
-ghost use Rattle.views.specs.Views.{head_at}ghost use Rattle.views.specs.Views.{head_at};
-ghost use Rattle.meaning.specs.Whom.{InSheet}ghost use Rattle.meaning.specs.Whom.{InSheet};
-ghost use Rattle.meaning.specs.declared.Whom.TheVariants.{One}ghost use Rattle.meaning.specs.declared.Whom.TheVariants.{One};
-ghost use Rattle.findseat.specs.Findseat.{InOrder}ghost use Rattle.findseat.specs.Findseat.{InOrder};
-ghost use Rattle.nearby.specs.Seats.{There, EntryRun, EntriesSeatsRan}ghost use Rattle.nearby.specs.Seats.{There, EntryRun, EntriesSeatsRan};
+ghost use Rattle.std.specs.Prelude.{◌≡◌, false, ◌+◌, ◌*◌, ◌≤◌, ◌<◌, length, eqb};
+ghost use Rattle.classes.specs.Choice.{pick};
+ghost use Rattle.sheetlaws.specs.Sheet.{in_end};
+ghost use Rattle.sheet.specs.Find.{InstanceSearch, ArcSearch};
+ghost use Rattle.views.specs.Views.{head_at};
+ghost use Rattle.meaning.specs.Whom.{InSheet};
+ghost use Rattle.meaning.specs.declared.Whom.TheVariants.{One};
+ghost use Rattle.findseat.specs.Findseat.{InOrder};
+ghost use Rattle.nearby.specs.Seats.{There, EntryRun, EntriesSeatsRan};
 
 use arcrun::Least;
 use entryarcs::Plan;

@@ -1,9 +1,9 @@
 // The seat whose arc an entry means: the arc is looked up in the sheet, and its place among the seats, which stand in the sheet's order.
-ghost use Rattle.std.specs.Prelude.{◌≡◌, false, List, ℕ, ◌≤◌, eqb, length}ghost use Rattle.std.specs.Prelude.{◌≡◌, false, List, ℕ, ◌≤◌, eqb, length};
-ghost use Rattle.classes.specs.Choice.{pick}ghost use Rattle.classes.specs.Choice.{pick};
-ghost use Rattle.sheetlaws.specs.Sheet.{in_end}ghost use Rattle.sheetlaws.specs.Sheet.{in_end};
-ghost use Rattle.sheet.specs.Find.{ArcSearch}ghost use Rattle.sheet.specs.Find.{ArcSearch};
-ghost use Rattle.findseat.specs.Findseat.{Ascending, OnlyAt, InOrder, OnlySeat}ghost use Rattle.findseat.specs.Findseat.{Ascending, OnlyAt, InOrder, OnlySeat};
+ghost use Rattle.std.specs.Prelude.{◌≡◌, false, List, ℕ, ◌≤◌, eqb, length};
+ghost use Rattle.classes.specs.Choice.{pick};
+ghost use Rattle.sheetlaws.specs.Sheet.{in_end};
+ghost use Rattle.sheet.specs.Find.{ArcSearch};
+ghost use Rattle.findseat.specs.Findseat.{Ascending, OnlyAt, InOrder, OnlySeat};
 
 use entryarcs::Plan;
 use grammar::Entry;

@@ -1,11 +1,11 @@
 // The readers of a header's parts: brackets, keywords, quoted texts, triples of numbers, the divider. Each contract is an equation between
 // readings (specs/Steps.antt).
-ghost use Rattle.std.specs.Prelude.{true, false, [], ◌∷◌, ◌≤◌, length}ghost use Rattle.std.specs.Prelude.{true, false, [], ◌∷◌, ◌≤◌, length};
-ghost use Rattle.tokens.specs.Stream.{placed}ghost use Rattle.tokens.specs.Stream.{placed};
-ghost use Rattle.grammar.specs.Grammar.{⟨, ⟩, bare, bare1, bare2, bare3}ghost use Rattle.grammar.specs.Grammar.{⟨, ⟩, bare, bare1, bare2, bare3};
-ghost use Rattle.rules.specs.Promises.{InHand}ghost use Rattle.rules.specs.Promises.{InHand};
-ghost use Rattle.headsteps.specs.Steps.{Takes, KeyRead, TextRead, HeadingRead, NumberShape, Skips, DividerRead}ghost use Rattle.headsteps.specs.Steps.{Takes, KeyRead, TextRead, HeadingRead, NumberShape, Skips, DividerRead};
-ghost use Rattle.headsteps.specs.Steps.{IsText, IsBare, Passes, PassesBare, PassesDivider}ghost use Rattle.headsteps.specs.Steps.{IsText, IsBare, Passes, PassesBare, PassesDivider};
+ghost use Rattle.std.specs.Prelude.{true, false, [], ◌∷◌, ◌≤◌, length};
+ghost use Rattle.tokens.specs.Stream.{placed};
+ghost use Rattle.grammar.specs.Grammar.{⟨, ⟩, bare, bare1, bare2, bare3};
+ghost use Rattle.rules.specs.Promises.{InHand};
+ghost use Rattle.headsteps.specs.Steps.{Takes, KeyRead, TextRead, HeadingRead, NumberShape, Skips, DividerRead};
+ghost use Rattle.headsteps.specs.Steps.{IsText, IsBare, Passes, PassesBare, PassesDivider};
 
 use grammar::{Hand, Mark, ReadName};
 use numbershape::is_number;

@@ -1,6 +1,6 @@
 // The texts of a header that was read.
-ghost use Rattle.std.specs.Prelude.{◌≡◌}ghost use Rattle.std.specs.Prelude.{◌≡◌};
-ghost use Rattle.headtexts.specs.Texts.{text_of}ghost use Rattle.headtexts.specs.Texts.{text_of};
+ghost use Rattle.std.specs.Prelude.{◌≡◌};
+ghost use Rattle.headtexts.specs.Texts.{text_of};
 
 use names::part_of;
 

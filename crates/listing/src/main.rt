@@ -1,5 +1,5 @@
 // The listing of a file (document 01, 'One listing in full'): what its cells and entries say, or its refusal.
-ghost use Rattle.std.specs.Prelude.{◌+◌, ◌*◌, ◌≤◌, length}ghost use Rattle.std.specs.Prelude.{◌+◌, ◌*◌, ◌≤◌, length};
+ghost use Rattle.std.specs.Prelude.{◌+◌, ◌*◌, ◌≤◌, length};
 
 use libc::{STDIN_FILENO, STDOUT_FILENO};
 use readcells::Answer;

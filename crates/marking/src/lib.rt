@@ -1,12 +1,12 @@
 // Which arcs the entries of a cell mean: each entry finds its arc by search and marks it in a table. There is a byte for each 128 bytes of the
 // longest sheet, so that no two arcs share one.
-ghost use Rattle.std.specs.Prelude.{◌≡◌, ◌+◌, ◌*◌, ◌/◌, ◌%◌, ◌≤◌, ◌<◌, length, set}ghost use Rattle.std.specs.Prelude.{◌≡◌, ◌+◌, ◌*◌, ◌/◌, ◌%◌, ◌≤◌, ◌<◌, length, set};
-ghost use Rattle.classes.specs.Choice.{pick}ghost use Rattle.classes.specs.Choice.{pick};
-ghost use Rattle.sheetlaws.specs.Sheet.{in_end}ghost use Rattle.sheetlaws.specs.Sheet.{in_end};
-ghost use Rattle.sheet.specs.Find.{ArcsGood, ArcSearch, InstanceSearch}ghost use Rattle.sheet.specs.Find.{ArcsGood, ArcSearch, InstanceSearch};
-ghost use Rattle.meaning.specs.Whom.{InSheet}ghost use Rattle.meaning.specs.Whom.{InSheet};
-ghost use Rattle.meaning.specs.declared.Whom.TheVariants.{One}ghost use Rattle.meaning.specs.declared.Whom.TheVariants.{One};
-ghost use Rattle.marking.specs.Choosing.{marked, Kept, EntryMarked, EntriesMarked}ghost use Rattle.marking.specs.Choosing.{marked, Kept, EntryMarked, EntriesMarked};
+ghost use Rattle.std.specs.Prelude.{◌≡◌, ◌+◌, ◌*◌, ◌/◌, ◌%◌, ◌≤◌, ◌<◌, length, set};
+ghost use Rattle.classes.specs.Choice.{pick};
+ghost use Rattle.sheetlaws.specs.Sheet.{in_end};
+ghost use Rattle.sheet.specs.Find.{ArcsGood, ArcSearch, InstanceSearch};
+ghost use Rattle.meaning.specs.Whom.{InSheet};
+ghost use Rattle.meaning.specs.declared.Whom.TheVariants.{One};
+ghost use Rattle.marking.specs.Choosing.{marked, Kept, EntryMarked, EntriesMarked};
 
 use entryarcs::Plan;
 use grammar::Entry;

@@ -1,7 +1,7 @@
 // What annotating means, and whom a cell of a file means on a sheet.
-ghost use Rattle.std.specs.Prelude.{◌≡◌}ghost use Rattle.std.specs.Prelude.{◌≡◌};
-ghost use Rattle.sheet.specs.Find.{InstanceSearch}ghost use Rattle.sheet.specs.Find.{InstanceSearch};
-ghost use Rattle.meaning.specs.Whom.{whom_of, InSheet}ghost use Rattle.meaning.specs.Whom.{whom_of, InSheet};
+ghost use Rattle.std.specs.Prelude.{◌≡◌};
+ghost use Rattle.sheet.specs.Find.{InstanceSearch};
+ghost use Rattle.meaning.specs.Whom.{whom_of, InSheet};
 
 use entryarcs::Plan;
 use grammar::Cell;

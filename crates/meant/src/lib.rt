@@ -1,13 +1,13 @@
 // Whether an entry of one of two texts, the old file and the incoming cell, means an arc: asked of the arc. `side` tells which text a table
 // belongs to: false the file, true the incoming cell.
-ghost use Rattle.std.specs.Prelude.{◌≡◌, ◌≤◌, ◌<◌, length}ghost use Rattle.std.specs.Prelude.{◌≡◌, ◌≤◌, ◌<◌, length};
-ghost use Rattle.classes.specs.Choice.{pick}ghost use Rattle.classes.specs.Choice.{pick};
-ghost use Rattle.sheetlaws.specs.Sheet.{in_end, ar_next}ghost use Rattle.sheetlaws.specs.Sheet.{in_end, ar_next};
-ghost use Rattle.sheet.specs.Find.{InstanceSearch}ghost use Rattle.sheet.specs.Find.{InstanceSearch};
-ghost use Rattle.meaning.specs.Whom.{InSheet}ghost use Rattle.meaning.specs.Whom.{InSheet};
-ghost use Rattle.patching.specs.Meant.{meant_in, meant_every}ghost use Rattle.patching.specs.Meant.{meant_in, meant_every};
-ghost use Rattle.meant.specs.Only.{path_before, only_path, MeantOn}ghost use Rattle.meant.specs.Only.{path_before, only_path, MeantOn};
-ghost use Rattle.meant.specs.Touch.{meant_for}ghost use Rattle.meant.specs.Touch.{meant_for};
+ghost use Rattle.std.specs.Prelude.{◌≡◌, ◌≤◌, ◌<◌, length};
+ghost use Rattle.classes.specs.Choice.{pick};
+ghost use Rattle.sheetlaws.specs.Sheet.{in_end, ar_next};
+ghost use Rattle.sheet.specs.Find.{InstanceSearch};
+ghost use Rattle.meaning.specs.Whom.{InSheet};
+ghost use Rattle.patching.specs.Meant.{meant_in, meant_every};
+ghost use Rattle.meant.specs.Only.{path_before, only_path, MeantOn};
+ghost use Rattle.meant.specs.Touch.{meant_for};
 
 use entryarcs::Plan;
 use grammar::Entry;

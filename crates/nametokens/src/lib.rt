@@ -1,10 +1,10 @@
 // Tokens where a name may stand: a word's shape as a name is judged while the word is scanned.
-ghost use Rattle.std.specs.Prelude.{◌≡◌, ◌≤◌, eqb, length}ghost use Rattle.std.specs.Prelude.{◌≡◌, ◌≤◌, eqb, length};
-ghost use Rattle.classes.specs.Choice.{pick}ghost use Rattle.classes.specs.Choice.{pick};
-ghost use Rattle.tokenforms.specs.Tokens.{token_at}ghost use Rattle.tokenforms.specs.Tokens.{token_at};
-ghost use Rattle.tokens.specs.Stream.{part}ghost use Rattle.tokens.specs.Stream.{part};
-ghost use Rattle.nameshape.specs.Shape.{name_run}ghost use Rattle.nameshape.specs.Shape.{name_run};
-ghost use Rattle.nametokens.specs.Shaped.{shape_of, name_fault, InName}ghost use Rattle.nametokens.specs.Shaped.{shape_of, name_fault, InName};
+ghost use Rattle.std.specs.Prelude.{◌≡◌, ◌≤◌, eqb, length};
+ghost use Rattle.classes.specs.Choice.{pick};
+ghost use Rattle.tokenforms.specs.Tokens.{token_at};
+ghost use Rattle.tokens.specs.Stream.{part};
+ghost use Rattle.nameshape.specs.Shape.{name_run};
+ghost use Rattle.nametokens.specs.Shaped.{shape_of, name_fault, InName};
 
 use nameshape::{BODY, WRONG, divider_of, is_name_byte, may_end, name_run, run_on};
 use scanning::{peek, white_end, word_end};

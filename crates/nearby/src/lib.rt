@@ -1,9 +1,9 @@
 // Cells and entries that can touch none of the seated arcs, found by the name that the arcs have in common.
-ghost use Rattle.std.specs.Prelude.{◌≡◌, true, false, ◌+◌, ◌≤◌, ◌<◌, length, take, eqb}ghost use Rattle.std.specs.Prelude.{◌≡◌, true, false, ◌+◌, ◌≤◌, ◌<◌, length, take, eqb};
-ghost use Rattle.classes.specs.Choice.{pick}ghost use Rattle.classes.specs.Choice.{pick};
-ghost use Rattle.names.specs.Name.{canon, part_of}ghost use Rattle.names.specs.Name.{canon, part_of};
-ghost use Rattle.sheetlaws.specs.Sheet.{ar_next}ghost use Rattle.sheetlaws.specs.Sheet.{ar_next};
-ghost use Rattle.nearby.specs.Seats.{agree, Ends, There, Common, NoneNear, kind_fits, NoneFits}ghost use Rattle.nearby.specs.Seats.{agree, Ends, There, Common, NoneNear, kind_fits, NoneFits};
+ghost use Rattle.std.specs.Prelude.{◌≡◌, true, false, ◌+◌, ◌≤◌, ◌<◌, length, take, eqb};
+ghost use Rattle.classes.specs.Choice.{pick};
+ghost use Rattle.names.specs.Name.{canon, part_of};
+ghost use Rattle.sheetlaws.specs.Sheet.{ar_next};
+ghost use Rattle.nearby.specs.Seats.{agree, Ends, There, Common, NoneNear, kind_fits, NoneFits};
 
 use grammar::Cell;
 

@@ -1,10 +1,10 @@
 // The shape of a number, and what its digits make (document 01, 'Numbers and times').
-ghost use Rattle.std.specs.Prelude.{◌≡◌, ◌+◌, ◌-◌, ◌*◌, ◌≤◌, ◌<◌, min, eqb, length, drop}ghost use Rattle.std.specs.Prelude.{◌≡◌, ◌+◌, ◌-◌, ◌*◌, ◌≤◌, ◌<◌, min, eqb, length, drop};
-ghost use Rattle.classes.specs.Choice.{and}ghost use Rattle.classes.specs.Choice.{and};
-ghost use Rattle.numbershape.specs.Shape.{first, run, signs, lead, pointed, is_number}ghost use Rattle.numbershape.specs.Shape.{first, run, signs, lead, pointed, is_number};
-ghost use Rattle.numbershape.specs.Places.{power_at, found}ghost use Rattle.numbershape.specs.Places.{power_at, found};
-ghost use Rattle.numbershape.specs.Steps.{stop, start}ghost use Rattle.numbershape.specs.Steps.{stop, start};
-ghost use Rattle.numbershape.specs.Scans.{Scans}ghost use Rattle.numbershape.specs.Scans.{Scans};
+ghost use Rattle.std.specs.Prelude.{◌≡◌, ◌+◌, ◌-◌, ◌*◌, ◌≤◌, ◌<◌, min, eqb, length, drop};
+ghost use Rattle.classes.specs.Choice.{and};
+ghost use Rattle.numbershape.specs.Shape.{first, run, signs, lead, pointed, is_number};
+ghost use Rattle.numbershape.specs.Places.{power_at, found};
+ghost use Rattle.numbershape.specs.Steps.{stop, start};
+ghost use Rattle.numbershape.specs.Scans.{Scans};
 
 use classes::is_digit;
 

@@ -1,8 +1,8 @@
 // The reader of a text that is one cell, as a re-issued one comes.
-ghost use Rattle.std.specs.Prelude.{true, false, ◌*◌, ◌-◌, ◌/◌, ◌≤◌, ◌<◌, length}ghost use Rattle.std.specs.Prelude.{true, false, ◌*◌, ◌-◌, ◌/◌, ◌≤◌, ◌<◌, length};
-ghost use Rattle.readcells.specs.Files.{FileIs}ghost use Rattle.readcells.specs.Files.{FileIs};
-ghost use Rattle.onecell.specs.One.{OneRead}ghost use Rattle.onecell.specs.One.{OneRead};
-ghost use Rattle.grammar.specs.Outcome.{read_cell_of}ghost use Rattle.grammar.specs.Outcome.{read_cell_of};
+ghost use Rattle.std.specs.Prelude.{true, false, ◌*◌, ◌-◌, ◌/◌, ◌≤◌, ◌<◌, length};
+ghost use Rattle.readcells.specs.Files.{FileIs};
+ghost use Rattle.onecell.specs.One.{OneRead};
+ghost use Rattle.grammar.specs.Outcome.{read_cell_of};
 
 use grammar::{Hand, ReadBody};
 use headsteps::take_opened;

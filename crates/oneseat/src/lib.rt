@@ -1,11 +1,11 @@
 // One seat: its 18 flags and 144 bytes of values copied out of the tables, run through an entry, and copied back.
-ghost use Rattle.std.specs.Prelude.{◌≡◌, ◌+◌, ◌*◌, ◌≤◌, ◌<◌, length, take, drop}ghost use Rattle.std.specs.Prelude.{◌≡◌, ◌+◌, ◌*◌, ◌≤◌, ◌<◌, length, take, drop};
-ghost use Rattle.std.proofs.Math.Seq.{paste}ghost use Rattle.std.proofs.Math.Seq.{paste};
-ghost use Rattle.classes.specs.Choice.{pick}ghost use Rattle.classes.specs.Choice.{pick};
-ghost use Rattle.sheetlaws.specs.Sheet.{ar_next}ghost use Rattle.sheetlaws.specs.Sheet.{ar_next};
-ghost use Rattle.sheet.specs.Find.{InstanceSearch}ghost use Rattle.sheet.specs.Find.{InstanceSearch};
-ghost use Rattle.meaning.specs.Whom.{InSheet}ghost use Rattle.meaning.specs.Whom.{InSheet};
-ghost use Rattle.nearby.specs.Seats.{SeatRan}ghost use Rattle.nearby.specs.Seats.{SeatRan};
+ghost use Rattle.std.specs.Prelude.{◌≡◌, ◌+◌, ◌*◌, ◌≤◌, ◌<◌, length, take, drop};
+ghost use Rattle.std.proofs.Math.Seq.{paste};
+ghost use Rattle.classes.specs.Choice.{pick};
+ghost use Rattle.sheetlaws.specs.Sheet.{ar_next};
+ghost use Rattle.sheet.specs.Find.{InstanceSearch};
+ghost use Rattle.meaning.specs.Whom.{InSheet};
+ghost use Rattle.nearby.specs.Seats.{SeatRan};
 
 use entryarcs::Plan;
 use meaning::Whom;

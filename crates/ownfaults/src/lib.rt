@@ -1,9 +1,9 @@
 // What the records alone refuse of a cell that comes into a file: 12 and 13 at its keyword, 14 at an entry (document 01, 'Patching').
-ghost use Rattle.std.specs.Prelude.{◌≡◌, ◌+◌, ◌*◌, ◌≤◌, ◌<◌, length, get_or}ghost use Rattle.std.specs.Prelude.{◌≡◌, ◌+◌, ◌*◌, ◌≤◌, ◌<◌, length, get_or};
-ghost use Rattle.sheet.specs.Find.{InsGood, InstanceSearch, ArcSearch}ghost use Rattle.sheet.specs.Find.{InsGood, InstanceSearch, ArcSearch};
-ghost use Rattle.meaning.specs.Whom.{InSheet}ghost use Rattle.meaning.specs.Whom.{InSheet};
-ghost use Rattle.meaning.specs.Entries.{refusal_for}ghost use Rattle.meaning.specs.Entries.{refusal_for};
-ghost use Rattle.ownfaults.specs.Own.{OwnEntries, OwnIs}ghost use Rattle.ownfaults.specs.Own.{OwnEntries, OwnIs};
+ghost use Rattle.std.specs.Prelude.{◌≡◌, ◌+◌, ◌*◌, ◌≤◌, ◌<◌, length, get_or};
+ghost use Rattle.sheet.specs.Find.{InsGood, InstanceSearch, ArcSearch};
+ghost use Rattle.meaning.specs.Whom.{InSheet};
+ghost use Rattle.meaning.specs.Entries.{refusal_for};
+ghost use Rattle.ownfaults.specs.Own.{OwnEntries, OwnIs};
 
 use arcrun::Least;
 use entryarcs::Plan;

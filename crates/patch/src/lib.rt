@@ -1,14 +1,14 @@
 // Patching: one re-issued cell in a sheet that was annotated before (document 01, 'Patching'): its texts are read, then the cell is swapped.
-ghost use Rattle.std.specs.Prelude.{◌≡◌, true, ◌*◌, ◌/◌, ◌≤◌, ◌<◌, length}ghost use Rattle.std.specs.Prelude.{◌≡◌, true, ◌*◌, ◌/◌, ◌≤◌, ◌<◌, length};
-ghost use Rattle.sheetparts.specs.Form.{check_of}ghost use Rattle.sheetparts.specs.Form.{check_of};
-ghost use Rattle.sheetparts.specs.declared.SheetCheck.TheVariants.{Good}ghost use Rattle.sheetparts.specs.declared.SheetCheck.TheVariants.{Good};
-ghost use Rattle.sheet.specs.Same.{same_records}ghost use Rattle.sheet.specs.Same.{same_records};
-ghost use Rattle.grammar.specs.Outcome.{read_cell_of}ghost use Rattle.grammar.specs.Outcome.{read_cell_of};
-ghost use Rattle.meaning.specs.Cells.{entries_before}ghost use Rattle.meaning.specs.Cells.{entries_before};
-ghost use Rattle.patch.specs.Incoming.{CellPatched}ghost use Rattle.patch.specs.Incoming.{CellPatched};
-ghost use Rattle.swap.specs.declared.Patched.TheVariants.{Refused}ghost use Rattle.swap.specs.declared.Patched.TheVariants.{Refused};
-ghost use Rattle.patch.specs.Meaning.{course, PatchIs}ghost use Rattle.patch.specs.Meaning.{course, PatchIs};
-ghost use Rattle.patch.specs.Counted.{cells_read, CountedIs}ghost use Rattle.patch.specs.Counted.{cells_read, CountedIs};
+ghost use Rattle.std.specs.Prelude.{◌≡◌, true, ◌*◌, ◌/◌, ◌≤◌, ◌<◌, length};
+ghost use Rattle.sheetparts.specs.Form.{check_of};
+ghost use Rattle.sheetparts.specs.declared.SheetCheck.TheVariants.{Good};
+ghost use Rattle.sheet.specs.Same.{same_records};
+ghost use Rattle.grammar.specs.Outcome.{read_cell_of};
+ghost use Rattle.meaning.specs.Cells.{entries_before};
+ghost use Rattle.patch.specs.Incoming.{CellPatched};
+ghost use Rattle.swap.specs.declared.Patched.TheVariants.{Refused};
+ghost use Rattle.patch.specs.Meaning.{course, PatchIs};
+ghost use Rattle.patch.specs.Counted.{cells_read, CountedIs};
 
 use entryarcs::Plan;
 use readcells::Answer;

@@ -1,11 +1,11 @@
 // Parts of the arcs in question: copied in sheet order into a work area, and their values written to a sheet.
-ghost use Rattle.std.specs.Prelude.{◌≡◌, ◌+◌, ◌-◌, ◌*◌, ◌/◌, ◌^◌, ◌≤◌, ◌<◌, ◌++◌, length, take, drop}ghost use Rattle.std.specs.Prelude.{◌≡◌, ◌+◌, ◌-◌, ◌*◌, ◌/◌, ◌^◌, ◌≤◌, ◌<◌, ◌++◌, length, take, drop};
-ghost use Rattle.std.proofs.Math.Seq.{paste}ghost use Rattle.std.proofs.Math.Seq.{paste};
-ghost use Rattle.wire.specs.Wire.{be_bytes}ghost use Rattle.wire.specs.Wire.{be_bytes};
-ghost use Rattle.sheetparts.specs.Form.{values_at}ghost use Rattle.sheetparts.specs.Form.{values_at};
-ghost use Rattle.sheetlaws.specs.Sheet.{ar_next}ghost use Rattle.sheetlaws.specs.Sheet.{ar_next};
-ghost use Rattle.patch_spots.specs.Spots.{bit}ghost use Rattle.patch_spots.specs.Spots.{bit};
-ghost use Rattle.patch_parts.specs.Parts.{LoadAsks, Loads, StoreAsks, Stores, part_at, shown, eights, arc_bytes, stored_bytes}ghost use Rattle.patch_parts.specs.Parts.{LoadAsks, Loads, StoreAsks, Stores, part_at, shown, eights, arc_bytes, stored_bytes};
+ghost use Rattle.std.specs.Prelude.{◌≡◌, ◌+◌, ◌-◌, ◌*◌, ◌/◌, ◌^◌, ◌≤◌, ◌<◌, ◌++◌, length, take, drop};
+ghost use Rattle.std.proofs.Math.Seq.{paste};
+ghost use Rattle.wire.specs.Wire.{be_bytes};
+ghost use Rattle.sheetparts.specs.Form.{values_at};
+ghost use Rattle.sheetlaws.specs.Sheet.{ar_next};
+ghost use Rattle.patch_spots.specs.Spots.{bit};
+ghost use Rattle.patch_parts.specs.Parts.{LoadAsks, Loads, StoreAsks, Stores, part_at, shown, eights, arc_bytes, stored_bytes};
 
 use apply_run::Run;
 use apply_values::OUTSIDE;

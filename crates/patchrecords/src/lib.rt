@@ -1,8 +1,8 @@
 // The cell lists of a patch lent as records: a thin function above the core's patch.
-ghost use Rattle.std.specs.Prelude.{◌/◌, length}ghost use Rattle.std.specs.Prelude.{◌/◌, length};
-ghost use Rattle.readrecords.specs.Reading.{room_for}ghost use Rattle.readrecords.specs.Reading.{room_for};
-ghost use Rattle.patch.specs.Meaning.{course}ghost use Rattle.patch.specs.Meaning.{course};
-ghost use Rattle.patchwithin.specs.Patching.{PatchedRecords}ghost use Rattle.patchwithin.specs.Patching.{PatchedRecords};
+ghost use Rattle.std.specs.Prelude.{◌/◌, length};
+ghost use Rattle.readrecords.specs.Reading.{room_for};
+ghost use Rattle.patch.specs.Meaning.{course};
+ghost use Rattle.patchwithin.specs.Patching.{PatchedRecords};
 
 use grammar::Cell;
 use patch::Counted;

@@ -1,9 +1,9 @@
 // patch, where only so many cells of each text have a record.
-ghost use Rattle.std.specs.Prelude.{◌≡◌, ◌/◌, ◌≤◌, length}ghost use Rattle.std.specs.Prelude.{◌≡◌, ◌/◌, ◌≤◌, length};
-ghost use Rattle.readrecords.specs.Reading.{room_for}ghost use Rattle.readrecords.specs.Reading.{room_for};
-ghost use Rattle.patch.specs.Meaning.{course}ghost use Rattle.patch.specs.Meaning.{course};
-ghost use Rattle.patch.specs.Counted.{CountedIs}ghost use Rattle.patch.specs.Counted.{CountedIs};
-ghost use Rattle.patchwithin.specs.Patching.{PatchWithin}ghost use Rattle.patchwithin.specs.Patching.{PatchWithin};
+ghost use Rattle.std.specs.Prelude.{◌≡◌, ◌/◌, ◌≤◌, length};
+ghost use Rattle.readrecords.specs.Reading.{room_for};
+ghost use Rattle.patch.specs.Meaning.{course};
+ghost use Rattle.patch.specs.Counted.{CountedIs};
+ghost use Rattle.patchwithin.specs.Patching.{PatchWithin};
 
 use patch::Counted;
 

@@ -1,11 +1,11 @@
 // The cells of a text, one after the other, into the lent tables; and what a reading answers.
-ghost use Rattle.std.specs.Prelude.{◌≡◌, true, false, ◌+◌, ◌*◌, ◌-◌, ◌≤◌, length, replicate}ghost use Rattle.std.specs.Prelude.{◌≡◌, true, false, ◌+◌, ◌*◌, ◌-◌, ◌≤◌, length, replicate};
-ghost use Rattle.classes.specs.Choice.{pick}ghost use Rattle.classes.specs.Choice.{pick};
-ghost use Rattle.rules.specs.Promises.{InHand}ghost use Rattle.rules.specs.Promises.{InHand};
-ghost use Rattle.tables.specs.Layout.{cell_row}ghost use Rattle.tables.specs.Layout.{cell_row};
-ghost use Rattle.tables.specs.Pastes.{put}ghost use Rattle.tables.specs.Pastes.{put};
-ghost use Rattle.readcells.specs.Whole.{TailRead, MoreRead, EndRead}ghost use Rattle.readcells.specs.Whole.{TailRead, MoreRead, EndRead};
-ghost use Rattle.readcells.specs.Left.{CellsRead, Finished}ghost use Rattle.readcells.specs.Left.{CellsRead, Finished};
+ghost use Rattle.std.specs.Prelude.{◌≡◌, true, false, ◌+◌, ◌*◌, ◌-◌, ◌≤◌, length, replicate};
+ghost use Rattle.classes.specs.Choice.{pick};
+ghost use Rattle.rules.specs.Promises.{InHand};
+ghost use Rattle.tables.specs.Layout.{cell_row};
+ghost use Rattle.tables.specs.Pastes.{put};
+ghost use Rattle.readcells.specs.Whole.{TailRead, MoreRead, EndRead};
+ghost use Rattle.readcells.specs.Left.{CellsRead, Finished};
 
 use cellhead::{CellHead, cell_head};
 use cells::read_body;

@@ -1,7 +1,7 @@
 // The reader: a whole file, into tables that the caller lends.
-ghost use Rattle.std.specs.Prelude.{true, false, ◌*◌, ◌-◌, ◌/◌, ◌≤◌, ◌<◌, length}ghost use Rattle.std.specs.Prelude.{true, false, ◌*◌, ◌-◌, ◌/◌, ◌≤◌, ◌<◌, length};
-ghost use Rattle.readcells.specs.Files.{AllRead, FileIs}ghost use Rattle.readcells.specs.Files.{AllRead, FileIs};
-ghost use Rattle.grammar.specs.Outcome.{read_file}ghost use Rattle.grammar.specs.Outcome.{read_file};
+ghost use Rattle.std.specs.Prelude.{true, false, ◌*◌, ◌-◌, ◌/◌, ◌≤◌, ◌<◌, length};
+ghost use Rattle.readcells.specs.Files.{AllRead, FileIs};
+ghost use Rattle.grammar.specs.Outcome.{read_file};
 
 use header::read_header;
 use readcells::{Answer, FileRead};

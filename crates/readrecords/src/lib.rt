@@ -1,7 +1,7 @@
 // The reader, with the cell list lent as records too.
-ghost use Rattle.std.specs.Prelude.{◌≡◌, ◌*◌, ◌/◌, ◌<◌, length}ghost use Rattle.std.specs.Prelude.{◌≡◌, ◌*◌, ◌/◌, ◌<◌, length};
-ghost use Rattle.grammar.specs.Outcome.{read_file, read_cell_of}ghost use Rattle.grammar.specs.Outcome.{read_file, read_cell_of};
-ghost use Rattle.readrecords.specs.Reading.{room_for, count_of, WithinIs, RecordsAre}ghost use Rattle.readrecords.specs.Reading.{room_for, count_of, WithinIs, RecordsAre};
+ghost use Rattle.std.specs.Prelude.{◌≡◌, ◌*◌, ◌/◌, ◌<◌, length};
+ghost use Rattle.grammar.specs.Outcome.{read_file, read_cell_of};
+ghost use Rattle.readrecords.specs.Reading.{room_for, count_of, WithinIs, RecordsAre};
 
 use grammar::Cell;
 use readcells::{Answer, FileRead};

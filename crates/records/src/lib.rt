@@ -1,8 +1,8 @@
 // The annotator, with the cell list lent as records too: a thin function over a slice of cells, above the tables of words that the core fills.
-ghost use Rattle.std.specs.Prelude.{◌≡◌, ◌*◌, ◌/◌, ◌<◌, length}ghost use Rattle.std.specs.Prelude.{◌≡◌, ◌*◌, ◌/◌, ◌<◌, length};
-ghost use Rattle.meaning.specs.Meaning.{course}ghost use Rattle.meaning.specs.Meaning.{course};
-ghost use Rattle.readrecords.specs.Reading.{room_for}ghost use Rattle.readrecords.specs.Reading.{room_for};
-ghost use Rattle.records.specs.Annotating.{CountedWithin, RecordsOut}ghost use Rattle.records.specs.Annotating.{CountedWithin, RecordsOut};
+ghost use Rattle.std.specs.Prelude.{◌≡◌, ◌*◌, ◌/◌, ◌<◌, length};
+ghost use Rattle.meaning.specs.Meaning.{course};
+ghost use Rattle.readrecords.specs.Reading.{room_for};
+ghost use Rattle.records.specs.Annotating.{CountedWithin, RecordsOut};
 
 use annotate::Counted;
 use grammar::Cell;

@@ -1,9 +1,9 @@
 // Small machines that scan a text: where a word ends, where blanks and comments end, where a quoted text ends.
-ghost use Rattle.std.specs.Prelude.{◌≡◌, ◌+◌, ◌≤◌, ◌<◌, eqb, length, get_or, drop}ghost use Rattle.std.specs.Prelude.{◌≡◌, ◌+◌, ◌≤◌, ◌<◌, eqb, length, get_or, drop};
-ghost use Rattle.classes.specs.Classes.{class_of}ghost use Rattle.classes.specs.Classes.{class_of};
-ghost use Rattle.scanning.specs.Scan.{scan_len}ghost use Rattle.scanning.specs.Scan.{scan_len};
-ghost use Rattle.scanning.specs.Machines.{commences, word_halts, word_end, blank_stop, mode_next, since_next, text_stop, close_stop, text_next, text_goes, close_halts}ghost use Rattle.scanning.specs.Machines.{commences, word_halts, word_end, blank_stop, mode_next, since_next, text_stop, close_stop, text_next, text_goes, close_halts};
-ghost use Rattle.scanning.specs.Runs.{WhiteTo, SkippedTo, commented, bracketed, width_of}ghost use Rattle.scanning.specs.Runs.{WhiteTo, SkippedTo, commented, bracketed, width_of};
+ghost use Rattle.std.specs.Prelude.{◌≡◌, ◌+◌, ◌≤◌, ◌<◌, eqb, length, get_or, drop};
+ghost use Rattle.classes.specs.Classes.{class_of};
+ghost use Rattle.scanning.specs.Scan.{scan_len};
+ghost use Rattle.scanning.specs.Machines.{commences, word_halts, word_end, blank_stop, mode_next, since_next, text_stop, close_stop, text_next, text_goes, close_halts};
+ghost use Rattle.scanning.specs.Runs.{WhiteTo, SkippedTo, commented, bracketed, width_of};
 
 use classes::{class_of, is_legal, is_plain, is_white, is_within, mark_of};
 

@@ -1,8 +1,8 @@
 // The arcs in question seated: marked by both cells, their flags and values laid into the seats, and written back.
-ghost use Rattle.std.specs.Prelude.{◌≡◌, false, ◌≤◌, length, replicate}ghost use Rattle.std.specs.Prelude.{◌≡◌, false, ◌≤◌, length, replicate};
-ghost use Rattle.findseat.specs.Findseat.{InOrder}ghost use Rattle.findseat.specs.Findseat.{InOrder};
-ghost use Rattle.nearby.specs.Seats.{There}ghost use Rattle.nearby.specs.Seats.{There};
-ghost use Rattle.seating.specs.Seating.{SwapFits, MarksCover, FlagsSeated, StatesLoaded, backs}ghost use Rattle.seating.specs.Seating.{SwapFits, MarksCover, FlagsSeated, StatesLoaded, backs};
+ghost use Rattle.std.specs.Prelude.{◌≡◌, false, ◌≤◌, length, replicate};
+ghost use Rattle.findseat.specs.Findseat.{InOrder};
+ghost use Rattle.nearby.specs.Seats.{There};
+ghost use Rattle.seating.specs.Seating.{SwapFits, MarksCover, FlagsSeated, StatesLoaded, backs};
 
 use entryarcs::Plan;
 use meaning::Whom;

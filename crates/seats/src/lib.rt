@@ -1,11 +1,11 @@
 // The arcs with a touched slot, seated in tables of their own, run through the cells of a file together: each cell is looked at once for all of
 // them, and one that can touch none is passed by.
-ghost use Rattle.std.specs.Prelude.{◌≡◌, false, ◌+◌, ◌*◌, ◌≤◌, ◌<◌, length, get_or}ghost use Rattle.std.specs.Prelude.{◌≡◌, false, ◌+◌, ◌*◌, ◌≤◌, ◌<◌, length, get_or};
-ghost use Rattle.classes.specs.Choice.{pick}ghost use Rattle.classes.specs.Choice.{pick};
-ghost use Rattle.sheet.specs.Find.{InstanceSearch, ArcSearch}ghost use Rattle.sheet.specs.Find.{InstanceSearch, ArcSearch};
-ghost use Rattle.meaning.specs.Cells.{entries_before}ghost use Rattle.meaning.specs.Cells.{entries_before};
-ghost use Rattle.findseat.specs.Findseat.{InOrder}ghost use Rattle.findseat.specs.Findseat.{InOrder};
-ghost use Rattle.nearby.specs.Seats.{Common, SeatsRan, CellsSeatsRan}ghost use Rattle.nearby.specs.Seats.{Common, SeatsRan, CellsSeatsRan};
+ghost use Rattle.std.specs.Prelude.{◌≡◌, false, ◌+◌, ◌*◌, ◌≤◌, ◌<◌, length, get_or};
+ghost use Rattle.classes.specs.Choice.{pick};
+ghost use Rattle.sheet.specs.Find.{InstanceSearch, ArcSearch};
+ghost use Rattle.meaning.specs.Cells.{entries_before};
+ghost use Rattle.findseat.specs.Findseat.{InOrder};
+ghost use Rattle.nearby.specs.Seats.{Common, SeatsRan, CellsSeatsRan};
 
 use arcrun::Least;
 use entryarcs::Plan;

@@ -1,15 +1,15 @@
 // Use of a timing sheet that was checked: the search for an instance and for an arc, and whether two sheets have the same records
 // (document 01, 'The timing sheet', 'Annotating', refusal 18).
-ghost use Rattle.std.specs.Prelude.{◌≡◌, true, false, ◌+◌, ◌*◌, ◌/◌, ◌-◌, ◌≤◌, ◌<◌, ltb, eqb, length}ghost use Rattle.std.specs.Prelude.{◌≡◌, true, false, ◌+◌, ◌*◌, ◌/◌, ◌-◌, ◌≤◌, ◌<◌, ltb, eqb, length};
-ghost use Rattle.classes.specs.Choice.{pick}ghost use Rattle.classes.specs.Choice.{pick};
-ghost use Rattle.wire.specs.Wire.{part}ghost use Rattle.wire.specs.Wire.{part};
-ghost use Rattle.names.specs.Order.{cmp, same_text}ghost use Rattle.names.specs.Order.{cmp, same_text};
-ghost use Rattle.names.specs.Name.{canon}ghost use Rattle.names.specs.Name.{canon};
-ghost use Rattle.sheetparts.specs.Form.{key_at, path_at, cmp_key}ghost use Rattle.sheetparts.specs.Form.{key_at, path_at, cmp_key};
-ghost use Rattle.sheetlaws.specs.Sheet.{ar_next, in_end, nth, place}ghost use Rattle.sheetlaws.specs.Sheet.{ar_next, in_end, nth, place};
-ghost use Rattle.sheet.specs.Search.{stride_of, put_mark, marked, NotBeyond}ghost use Rattle.sheet.specs.Search.{stride_of, put_mark, marked, NotBeyond};
-ghost use Rattle.sheet.specs.Find.{second_wanted, wanted, find_arc, find_instance, ArcsGood, InsGood, ArcSearch, InstanceSearch}ghost use Rattle.sheet.specs.Find.{second_wanted, wanted, find_arc, find_instance, ArcsGood, InsGood, ArcSearch, InstanceSearch};
-ghost use Rattle.sheet.specs.Same.{same_keys, same_records}ghost use Rattle.sheet.specs.Same.{same_keys, same_records};
+ghost use Rattle.std.specs.Prelude.{◌≡◌, true, false, ◌+◌, ◌*◌, ◌/◌, ◌-◌, ◌≤◌, ◌<◌, ltb, eqb, length};
+ghost use Rattle.classes.specs.Choice.{pick};
+ghost use Rattle.wire.specs.Wire.{part};
+ghost use Rattle.names.specs.Order.{cmp, same_text};
+ghost use Rattle.names.specs.Name.{canon};
+ghost use Rattle.sheetparts.specs.Form.{key_at, path_at, cmp_key};
+ghost use Rattle.sheetlaws.specs.Sheet.{ar_next, in_end, nth, place};
+ghost use Rattle.sheet.specs.Search.{stride_of, put_mark, marked, NotBeyond};
+ghost use Rattle.sheet.specs.Find.{second_wanted, wanted, find_arc, find_instance, ArcsGood, InsGood, ArcSearch, InstanceSearch};
+ghost use Rattle.sheet.specs.Same.{same_keys, same_records};
 
 // The place of the record with a key, or that there is none.
 #[derive(Drop)]

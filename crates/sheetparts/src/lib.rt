@@ -1,8 +1,8 @@
 // The form of a timing sheet (document 01, 'The timing sheet'), and the check of its smallest parts: marks, lengths, names, values.
-ghost use Rattle.std.specs.Prelude.{◌≡◌, ◌+◌, ◌≤◌, length, get_or}ghost use Rattle.std.specs.Prelude.{◌≡◌, ◌+◌, ◌≤◌, length, get_or};
-ghost use Rattle.wire.specs.Wire.{part}ghost use Rattle.wire.specs.Wire.{part};
-ghost use Rattle.names.specs.Order.{cmp}ghost use Rattle.names.specs.Order.{cmp};
-ghost use Rattle.sheetparts.specs.Form.{reach, shape_ok, one_end, edge_top, edge_top2, second_least, second_most, used, value_ok, room_step, mark_step, kind_step, edge_step, len_step, name_step, value_step, values_step, first_len, second_len, path_len, type_len, format_step}ghost use Rattle.sheetparts.specs.Form.{reach, shape_ok, one_end, edge_top, edge_top2, second_least, second_most, used, value_ok, room_step, mark_step, kind_step, edge_step, len_step, name_step, value_step, values_step, first_len, second_len, path_len, type_len, format_step};
+ghost use Rattle.std.specs.Prelude.{◌≡◌, ◌+◌, ◌≤◌, length, get_or};
+ghost use Rattle.wire.specs.Wire.{part};
+ghost use Rattle.names.specs.Order.{cmp};
+ghost use Rattle.sheetparts.specs.Form.{reach, shape_ok, one_end, edge_top, edge_top2, second_least, second_most, used, value_ok, room_step, mark_step, kind_step, edge_step, len_step, name_step, value_step, values_step, first_len, second_len, path_len, type_len, format_step};
 
 // What a fault is about.
 const FORM: u8 = 10; // a mark, a length, a field that is not whole, a byte too many

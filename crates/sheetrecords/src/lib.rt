@@ -1,11 +1,11 @@
 // The records of a timing sheet that was checked: the fields and the values of an instance or an arc at a place.
-ghost use Rattle.std.specs.Prelude.{◌≡◌, ◌+◌, ◌*◌, ◌-◌, ◌≤◌, ◌<◌, length}ghost use Rattle.std.specs.Prelude.{◌≡◌, ◌+◌, ◌*◌, ◌-◌, ◌≤◌, ◌<◌, length};
-ghost use Rattle.std.proofs.Math.Seq.{paste}ghost use Rattle.std.proofs.Math.Seq.{paste};
-ghost use Rattle.std.specs.Int.{w64}ghost use Rattle.std.specs.Int.{w64};
-ghost use Rattle.std.proofs.Common.{to_z, of_z}ghost use Rattle.std.proofs.Common.{to_z, of_z};
-ghost use Rattle.wire.specs.Wire.{be64, be_bytes}ghost use Rattle.wire.specs.Wire.{be64, be_bytes};
-ghost use Rattle.sheetparts.specs.Form.{key_at, values_at, path_at, type_at}ghost use Rattle.sheetparts.specs.Form.{key_at, values_at, path_at, type_at};
-ghost use Rattle.sheetlaws.specs.Sheet.{ar_next, in_end, place}ghost use Rattle.sheetlaws.specs.Sheet.{ar_next, in_end, place};
+ghost use Rattle.std.specs.Prelude.{◌≡◌, ◌+◌, ◌*◌, ◌-◌, ◌≤◌, ◌<◌, length};
+ghost use Rattle.std.proofs.Math.Seq.{paste};
+ghost use Rattle.std.specs.Int.{w64};
+ghost use Rattle.std.proofs.Common.{to_z, of_z};
+ghost use Rattle.wire.specs.Wire.{be64, be_bytes};
+ghost use Rattle.sheetparts.specs.Form.{key_at, values_at, path_at, type_at};
+ghost use Rattle.sheetlaws.specs.Sheet.{ar_next, in_end, place};
 
 pub fn next_instance(sheet: &[u8], place: usize) -> usize
     requires { in_end sheet.now place ≤ length sheet.now }

@@ -1,9 +1,9 @@
 // An entry of a `*` cell: applied in every instance of the cell's type, by the index of the instances by type.
-ghost use Rattle.std.specs.Prelude.{◌≡◌, ◌≤◌}ghost use Rattle.std.specs.Prelude.{◌≡◌, ◌≤◌};
-ghost use Rattle.bytype.specs.ByType.{Indexed, IndexReady}ghost use Rattle.bytype.specs.ByType.{Indexed, IndexReady};
-ghost use Rattle.byend.specs.Ends.{EndsReady}ghost use Rattle.byend.specs.Ends.{EndsReady};
-ghost use Rattle.applying.specs.Bytes.{refusal_every, written_every, applied_every}ghost use Rattle.applying.specs.Bytes.{refusal_every, written_every, applied_every};
-ghost use Rattle.applying.specs.Ready.{Ready}ghost use Rattle.applying.specs.Ready.{Ready};
+ghost use Rattle.std.specs.Prelude.{◌≡◌, ◌≤◌};
+ghost use Rattle.bytype.specs.ByType.{Indexed, IndexReady};
+ghost use Rattle.byend.specs.Ends.{EndsReady};
+ghost use Rattle.applying.specs.Bytes.{refusal_every, written_every, applied_every};
+ghost use Rattle.applying.specs.Ready.{Ready};
 
 use entryarcs::Plan;
 use grammar::Entry;

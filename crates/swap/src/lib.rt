@@ -1,12 +1,12 @@
 // Swapping one cell of a file that was read for the incoming one (document 01, 'Patching').
 //
 // First decide, then write: the least fault of the touched slots and of the incoming cell's own is the answer; without one the touched values are written.
-ghost use Rattle.std.specs.Prelude.{◌≡◌, length}ghost use Rattle.std.specs.Prelude.{◌≡◌, length};
-ghost use Rattle.sheetparts.specs.Form.{check_of}ghost use Rattle.sheetparts.specs.Form.{check_of};
-ghost use Rattle.sheetparts.specs.declared.SheetCheck.TheVariants.{Good}ghost use Rattle.sheetparts.specs.declared.SheetCheck.TheVariants.{Good};
-ghost use Rattle.swaparcs.specs.Loops.{SwapReady}ghost use Rattle.swaparcs.specs.Loops.{SwapReady};
-ghost use Rattle.swap.specs.Swapped.{answer_by, SwapRun}ghost use Rattle.swap.specs.Swapped.{answer_by, SwapRun};
-ghost use Rattle.swap.specs.declared.Patched.TheVariants.{Refused}ghost use Rattle.swap.specs.declared.Patched.TheVariants.{Refused};
+ghost use Rattle.std.specs.Prelude.{◌≡◌, length};
+ghost use Rattle.sheetparts.specs.Form.{check_of};
+ghost use Rattle.sheetparts.specs.declared.SheetCheck.TheVariants.{Good};
+ghost use Rattle.swaparcs.specs.Loops.{SwapReady};
+ghost use Rattle.swap.specs.Swapped.{answer_by, SwapRun};
+ghost use Rattle.swap.specs.declared.Patched.TheVariants.{Refused};
 
 use arcrun::Least;
 use entryarcs::Plan;

@@ -1,10 +1,10 @@
 // A part of the arcs that a swap may touch, up to 4,096, each with its seat in tables: their values go through the new file together.
-ghost use Rattle.std.specs.Prelude.{◌≡◌, ◌≤◌, length}ghost use Rattle.std.specs.Prelude.{◌≡◌, ◌≤◌, length};
-ghost use Rattle.sheet.specs.Find.{InstanceSearch, ArcSearch}ghost use Rattle.sheet.specs.Find.{InstanceSearch, ArcSearch};
-ghost use Rattle.findseat.specs.Findseat.{InOrder}ghost use Rattle.findseat.specs.Findseat.{InOrder};
-ghost use Rattle.nearby.specs.Seats.{There, Common}ghost use Rattle.nearby.specs.Seats.{There, Common};
-ghost use Rattle.swaparcs.specs.Loops.{SwapReady}ghost use Rattle.swaparcs.specs.Loops.{SwapReady};
-ghost use Rattle.seating.specs.Seating.{SwapFits, FlagsSeated, StatesLoaded, FrontRan, SeatsThrough}ghost use Rattle.seating.specs.Seating.{SwapFits, FlagsSeated, StatesLoaded, FrontRan, SeatsThrough};
+ghost use Rattle.std.specs.Prelude.{◌≡◌, ◌≤◌, length};
+ghost use Rattle.sheet.specs.Find.{InstanceSearch, ArcSearch};
+ghost use Rattle.findseat.specs.Findseat.{InOrder};
+ghost use Rattle.nearby.specs.Seats.{There, Common};
+ghost use Rattle.swaparcs.specs.Loops.{SwapReady};
+ghost use Rattle.seating.specs.Seating.{SwapFits, FlagsSeated, StatesLoaded, FrontRan, SeatsThrough};
 
 use arcrun::Least;
 use entryarcs::Plan;

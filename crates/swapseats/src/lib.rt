@@ -1,7 +1,7 @@
 // Swapping one cell of a file that was read: the arcs that it may touch, part by part (document 01, 'Patching'). First decide, then write: all
 // are judged before the first value is written.
-ghost use Rattle.std.specs.Prelude.{◌≡◌, length}ghost use Rattle.std.specs.Prelude.{◌≡◌, length};
-ghost use Rattle.seating.specs.Seating.{SwapFits, MarksCover, SwapSeated}ghost use Rattle.seating.specs.Seating.{SwapFits, MarksCover, SwapSeated};
+ghost use Rattle.std.specs.Prelude.{◌≡◌, length};
+ghost use Rattle.seating.specs.Seating.{SwapFits, MarksCover, SwapSeated};
 
 use arcrun::Least;
 use entryarcs::Plan;

@@ -1,7 +1,7 @@
 // The records of a reading, in tables of words that the caller lends.
-ghost use Rattle.std.specs.Prelude.{◌≡◌, ◌+◌, ◌*◌, ◌≤◌, length, take}ghost use Rattle.std.specs.Prelude.{◌≡◌, ◌+◌, ◌*◌, ◌≤◌, length, take};
-ghost use Rattle.tables.specs.Layout.{amount_word, value_words, values_row, head_row, cell_row, entry_row}ghost use Rattle.tables.specs.Layout.{amount_word, value_words, values_row, head_row, cell_row, entry_row};
-ghost use Rattle.tables.specs.Pastes.{put}ghost use Rattle.tables.specs.Pastes.{put};
+ghost use Rattle.std.specs.Prelude.{◌≡◌, ◌+◌, ◌*◌, ◌≤◌, length, take};
+ghost use Rattle.tables.specs.Layout.{amount_word, value_words, values_row, head_row, cell_row, entry_row};
+ghost use Rattle.tables.specs.Pastes.{put};
 
 use grammar::{Amount, Cell, Entry, ReadEntry, Value};
 use wire::bits_of;

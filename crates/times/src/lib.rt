@@ -1,11 +1,11 @@
 // A number's exact value in femtoseconds (document 01, 'Numbers and times').
-ghost use Rattle.std.specs.Prelude.{◌≡◌, ◌+◌, ◌-◌, ◌*◌, ◌^◌, ◌≤◌, ◌<◌, min, eqb, length, get_or, drop}ghost use Rattle.std.specs.Prelude.{◌≡◌, ◌+◌, ◌-◌, ◌*◌, ◌^◌, ◌≤◌, ◌<◌, min, eqb, length, get_or, drop};
-ghost use Rattle.numbershape.specs.Shape.{digits_of}ghost use Rattle.numbershape.specs.Shape.{digits_of};
-ghost use Rattle.numbershape.specs.Value.{horner, at_most, exact, number_of}ghost use Rattle.numbershape.specs.Value.{horner, at_most, exact, number_of};
-ghost use Rattle.numbershape.specs.Fast.{Small}ghost use Rattle.numbershape.specs.Fast.{Small};
-ghost use Rattle.numbershape.specs.Steps.{stop, figures, step_of, fold, start, answer_of}ghost use Rattle.numbershape.specs.Steps.{stop, figures, step_of, fold, start, answer_of};
-ghost use Rattle.times.specs.Standing.{time_to, plainly}ghost use Rattle.times.specs.Standing.{time_to, plainly};
-ghost use Rattle.times.specs.Plain.{plain_of}ghost use Rattle.times.specs.Plain.{plain_of};
+ghost use Rattle.std.specs.Prelude.{◌≡◌, ◌+◌, ◌-◌, ◌*◌, ◌^◌, ◌≤◌, ◌<◌, min, eqb, length, get_or, drop};
+ghost use Rattle.numbershape.specs.Shape.{digits_of};
+ghost use Rattle.numbershape.specs.Value.{horner, at_most, exact, number_of};
+ghost use Rattle.numbershape.specs.Fast.{Small};
+ghost use Rattle.numbershape.specs.Steps.{stop, figures, step_of, fold, start, answer_of};
+ghost use Rattle.times.specs.Standing.{time_to, plainly};
+ghost use Rattle.times.specs.Plain.{plain_of};
 
 use numbershape::{Digits, Found, Number};
 

@@ -1,8 +1,8 @@
 // The forms of tokens (document 01, 'Bytes and words'): quoted texts, comments, and which token stands at a place.
-ghost use Rattle.std.specs.Prelude.{◌≡◌, false, ◌+◌, ◌≤◌, ◌<◌, length, drop}ghost use Rattle.std.specs.Prelude.{◌≡◌, false, ◌+◌, ◌≤◌, ◌<◌, length, drop};
-ghost use Rattle.scanning.specs.Scan.{scan_st}ghost use Rattle.scanning.specs.Scan.{scan_st};
-ghost use Rattle.scanning.specs.Machines.{word_end, text_halts, text_goes, block_halts}ghost use Rattle.scanning.specs.Machines.{word_end, text_halts, text_goes, block_halts};
-ghost use Rattle.tokenforms.specs.Tokens.{token_here, string_at, token_at, spoilt, block_end}ghost use Rattle.tokenforms.specs.Tokens.{token_here, string_at, token_at, spoilt, block_end};
+ghost use Rattle.std.specs.Prelude.{◌≡◌, false, ◌+◌, ◌≤◌, ◌<◌, length, drop};
+ghost use Rattle.scanning.specs.Scan.{scan_st};
+ghost use Rattle.scanning.specs.Machines.{word_end, text_halts, text_goes, block_halts};
+ghost use Rattle.tokenforms.specs.Tokens.{token_here, string_at, token_at, spoilt, block_end};
 
 use classes::{class_of, mark_of};
 

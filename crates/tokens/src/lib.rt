@@ -1,8 +1,8 @@
 // The tokens of a text, one after the other (document 01, 'Bytes and words').
-ghost use Rattle.std.specs.Prelude.{◌≡◌, ◌+◌, ◌≤◌, ◌<◌, length}ghost use Rattle.std.specs.Prelude.{◌≡◌, ◌+◌, ◌≤◌, ◌<◌, length};
-ghost use Rattle.tokenforms.specs.Tokens.{token_at}ghost use Rattle.tokenforms.specs.Tokens.{token_at};
-ghost use Rattle.tokens.specs.Stream.{stream, count, end_of}ghost use Rattle.tokens.specs.Stream.{stream, count, end_of};
-ghost use Rattle.tokens.specs.Quick.{Signed}ghost use Rattle.tokens.specs.Quick.{Signed};
+ghost use Rattle.std.specs.Prelude.{◌≡◌, ◌+◌, ◌≤◌, ◌<◌, length};
+ghost use Rattle.tokenforms.specs.Tokens.{token_at};
+ghost use Rattle.tokens.specs.Stream.{stream, count, end_of};
+ghost use Rattle.tokens.specs.Quick.{Signed};
 
 use classes::{is_white, mark_of};
 use scanning::{peek, white_end, word_end};

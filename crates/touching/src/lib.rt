@@ -1,9 +1,9 @@
 // Which slots of an arc an entry's values touch, and which cells may touch an arc at all.
-ghost use Rattle.std.specs.Prelude.{◌≡◌, ◌+◌, ◌≤◌, ◌<◌, length}ghost use Rattle.std.specs.Prelude.{◌≡◌, ◌+◌, ◌≤◌, ◌<◌, length};
-ghost use Rattle.classes.specs.Choice.{pick}ghost use Rattle.classes.specs.Choice.{pick};
-ghost use Rattle.sheetlaws.specs.Sheet.{ar_next}ghost use Rattle.sheetlaws.specs.Sheet.{ar_next};
-ghost use Rattle.patching.specs.Scratch.{touched_flags}ghost use Rattle.patching.specs.Scratch.{touched_flags};
-ghost use Rattle.patching.specs.Meant.{may_touch}ghost use Rattle.patching.specs.Meant.{may_touch};
+ghost use Rattle.std.specs.Prelude.{◌≡◌, ◌+◌, ◌≤◌, ◌<◌, length};
+ghost use Rattle.classes.specs.Choice.{pick};
+ghost use Rattle.sheetlaws.specs.Sheet.{ar_next};
+ghost use Rattle.patching.specs.Scratch.{touched_flags};
+ghost use Rattle.patching.specs.Meant.{may_touch};
 
 const SAME: u8 = 1;
 

@@ -1,13 +1,13 @@
 // Which slots of the seated arcs the entries of a cell supply. Where there are many seats, an entry that names one arc finds its seat by search.
-ghost use Rattle.std.specs.Prelude.{◌≡◌, ◌+◌, ◌*◌, ◌≤◌, length}ghost use Rattle.std.specs.Prelude.{◌≡◌, ◌+◌, ◌*◌, ◌≤◌, length};
-ghost use Rattle.classes.specs.Choice.{pick}ghost use Rattle.classes.specs.Choice.{pick};
-ghost use Rattle.sheetlaws.specs.Sheet.{in_end}ghost use Rattle.sheetlaws.specs.Sheet.{in_end};
-ghost use Rattle.sheet.specs.Find.{ArcsGood, ArcSearch, InstanceSearch}ghost use Rattle.sheet.specs.Find.{ArcsGood, ArcSearch, InstanceSearch};
-ghost use Rattle.views.specs.Views.{head_at}ghost use Rattle.views.specs.Views.{head_at};
-ghost use Rattle.meaning.specs.Whom.{InSheet}ghost use Rattle.meaning.specs.Whom.{InSheet};
-ghost use Rattle.meaning.specs.declared.Whom.TheVariants.{One}ghost use Rattle.meaning.specs.declared.Whom.TheVariants.{One};
-ghost use Rattle.findseat.specs.Findseat.{InOrder}ghost use Rattle.findseat.specs.Findseat.{InOrder};
-ghost use Rattle.touchseats.specs.Touchseats.{seat_touched, EntryTouched, SeatsTouched}ghost use Rattle.touchseats.specs.Touchseats.{seat_touched, EntryTouched, SeatsTouched};
+ghost use Rattle.std.specs.Prelude.{◌≡◌, ◌+◌, ◌*◌, ◌≤◌, length};
+ghost use Rattle.classes.specs.Choice.{pick};
+ghost use Rattle.sheetlaws.specs.Sheet.{in_end};
+ghost use Rattle.sheet.specs.Find.{ArcsGood, ArcSearch, InstanceSearch};
+ghost use Rattle.views.specs.Views.{head_at};
+ghost use Rattle.meaning.specs.Whom.{InSheet};
+ghost use Rattle.meaning.specs.declared.Whom.TheVariants.{One};
+ghost use Rattle.findseat.specs.Findseat.{InOrder};
+ghost use Rattle.touchseats.specs.Touchseats.{seat_touched, EntryTouched, SeatsTouched};
 
 use entryarcs::Plan;
 use meaning::Whom;

@@ -1,12 +1,12 @@
 // The readers of values: numbers, triples, lists of them, empty brackets. Each contract is an equation between readings
 // (rules/specs/Promises.antt). Every reader takes the text and the place from which to read.
-ghost use Rattle.std.specs.Prelude.{◌≡◌, true, false, ◌+◌, ◌-◌, ◌≤◌, ◌<◌, length, take}ghost use Rattle.std.specs.Prelude.{◌≡◌, true, false, ◌+◌, ◌-◌, ◌≤◌, ◌<◌, length, take};
-ghost use Rattle.tokens.specs.Stream.{placed}ghost use Rattle.tokens.specs.Stream.{placed};
-ghost use Rattle.grammar.specs.Ll.{non}ghost use Rattle.grammar.specs.Ll.{non};
-ghost use Rattle.grammar.specs.Grammar.{third}ghost use Rattle.grammar.specs.Grammar.{third};
-ghost use Rattle.grammar.specs.Meaning.{wrongly}ghost use Rattle.grammar.specs.Meaning.{wrongly};
-ghost use Rattle.rules.specs.Promises.{refusal_of, NumberHere, Marked, Reads, ReadsValue, OpensValue, ReadsValues, OpensValues}ghost use Rattle.rules.specs.Promises.{refusal_of, NumberHere, Marked, Reads, ReadsValue, OpensValue, ReadsValues, OpensValues};
-ghost use Rattle.values.specs.Parts.{Sees, LeadRead, FirstRead, MiddleRead}ghost use Rattle.values.specs.Parts.{Sees, LeadRead, FirstRead, MiddleRead};
+ghost use Rattle.std.specs.Prelude.{◌≡◌, true, false, ◌+◌, ◌-◌, ◌≤◌, ◌<◌, length, take};
+ghost use Rattle.tokens.specs.Stream.{placed};
+ghost use Rattle.grammar.specs.Ll.{non};
+ghost use Rattle.grammar.specs.Grammar.{third};
+ghost use Rattle.grammar.specs.Meaning.{wrongly};
+ghost use Rattle.rules.specs.Promises.{refusal_of, NumberHere, Marked, Reads, ReadsValue, OpensValue, ReadsValues, OpensValues};
+ghost use Rattle.values.specs.Parts.{Sees, LeadRead, FirstRead, MiddleRead};
 
 use grammar::{Amount, Here, Mark, ReadValue, Status, Value, Values};
 use numbershape::Number;

@@ -1,6 +1,6 @@
 // Reading back the tables that a reading left: a row as a struct by value.
-ghost use Rattle.std.specs.Prelude.{◌≡◌, ◌+◌, ◌%◌, ◌≤◌, length}ghost use Rattle.std.specs.Prelude.{◌≡◌, ◌+◌, ◌%◌, ◌≤◌, length};
-ghost use Rattle.views.specs.Views.{cell_at, head_at}ghost use Rattle.views.specs.Views.{cell_at, head_at};
+ghost use Rattle.std.specs.Prelude.{◌≡◌, ◌+◌, ◌%◌, ◌≤◌, length};
+ghost use Rattle.views.specs.Views.{cell_at, head_at};
 
 use grammar::{Cell, Entry};
 

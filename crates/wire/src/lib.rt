@@ -1,9 +1,9 @@
 // Numbers in bytes, the most significant byte first; signed ones in two's complement.
-ghost use Rattle.std.specs.Prelude.{◌≡◌, ◌+◌, ◌≤◌, ◌<◌, length}ghost use Rattle.std.specs.Prelude.{◌≡◌, ◌+◌, ◌≤◌, ◌<◌, length};
-ghost use Rattle.std.proofs.Math.Seq.{paste}ghost use Rattle.std.proofs.Math.Seq.{paste};
-ghost use Rattle.std.specs.Int.{w64}ghost use Rattle.std.specs.Int.{w64};
-ghost use Rattle.std.proofs.Common.{to_z, of_z}ghost use Rattle.std.proofs.Common.{to_z, of_z};
-ghost use Rattle.wire.specs.Wire.{be16, be32, be64, be_bytes}ghost use Rattle.wire.specs.Wire.{be16, be32, be64, be_bytes};
+ghost use Rattle.std.specs.Prelude.{◌≡◌, ◌+◌, ◌≤◌, ◌<◌, length};
+ghost use Rattle.std.proofs.Math.Seq.{paste};
+ghost use Rattle.std.specs.Int.{w64};
+ghost use Rattle.std.proofs.Common.{to_z, of_z};
+ghost use Rattle.wire.specs.Wire.{be16, be32, be64, be_bytes};
 
 fn wide(byte: u8) -> u64
     ensures { (result ≡ byte) × (result < 256) }
