@@ -1,4 +1,3 @@
-pub mod Through
 pub mod TextLaws
 pub mod Statements
 pub mod Devices

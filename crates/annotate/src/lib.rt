@@ -6,15 +6,13 @@ ghost use Rattle.annotate.specs.Devices.{rows_there, any_device};
 ghost use Rattle.meaning.specs.Cells.{entries_before, is_refusal, TextRun};
 ghost use Rattle.meaning.specs.Meaning.{course, cell_count, AnnotateIs};
 
-use apply_cells::{Fault, Stretch};
-use apply_run::Run;
 use entryarcs::Plan;
 use meaning::Annotated;
 use readcells::Answer;
 use sheetparts::SheetCheck;
 
 // The answer, and how many cells of the text were read: none of a text that was refused or not reached.
-#[derive(Drop)]
+#[derive(Clone, Copy)]
 pub struct Counted {
     pub answer: Annotated,
     pub cells: usize,
@@ -25,11 +23,6 @@ const DEVICE: u64 = 4;
 
 // The words of an entry's and of a cell's row.
 const ENTRY_WORDS: usize = 28;
-
-const CELL_WORDS: usize = 7;
-
-// A starred cell's sort.
-const STAR: u64 = 2;
 
 // Whether there was a refusal, after which the output sheet is to be the starting sheet again.
 fn is_refusal(went: Annotated) -> bool
@@ -79,67 +72,6 @@ fn any_device(entries: &[u64], count: usize) -> bool
     some
 }
 
-// Whether one of the first `count` cells of the table is starred: the chains by type are made only then.
-fn any_star(cells: &[u64], count: usize) -> bool
-    requires { 7 * count ≤ length cells.now }
-    ensures { result ≡ any_star cells.now count }
-{
-    let mut some = false;
-    let mut k = 0;
-    while k < count {
-        if cells[CELL_WORDS * k + 3] == STAR {
-            some = true;
-        }
-        k += 1;
-    }
-    some
-}
-
-// The arcs of a sheet as a run.
-fn whole_run(first: usize, end: usize, count: usize) -> Run
-    ensures { result ≡ whole_run first end count }
-{
-    Run {
-        first,
-        end,
-        count,
-        part: false,
-        chained: false,
-    }
-}
-
-// All cells of a text.
-fn all_cells(count: usize, slash: bool) -> Stretch
-    ensures { result ≡ all_cells count slash }
-{
-    Stretch {
-        from: 0,
-        to: count,
-        entry: 0,
-        event: 0,
-        slash,
-        incoming: false,
-    }
-}
-
-// A fault as the answer.
-fn answer_of(fault: Fault) -> Annotated
-    ensures { result ≡ annotated_by fault }
-{
-    match fault {
-        Fault::Nothing => Annotated::Done,
-        Fault::At {
-            event,
-            number,
-            place,
-            incoming,
-        } => Annotated::Refused {
-            number: number,
-            place: place,
-        },
-    }
-}
-
 // Applies a text that was read, with so many cells and entries, to a starting sheet that was checked. After a refusal the output sheet equals the starting sheet.
 fn apply_text(
     start: &[u8],
@@ -156,22 +88,19 @@ fn apply_text(
     ensures { TextRun start.now text.now plan.slash plan.instances plan.arcs plan.first cells.now count
         entries.now out.new result }
 {
-    let mut types = [0u32; 73728];
-    let instances = apply_instances::index_instances(
-        start,
-        plan.instances,
-        any_star(cells, count),
-        &mut types,
-    );
-    let mut index = [0u32; 117135];
-    let whole = whole_run(plan.first, start.len(), plan.arcs);
-    let run = apply_hits::index_run(start, whole, any_device(entries, all), &mut index);
+    let mut places = [0u32; 4096];
+    sheet::mark_instances(start, plan.instances, 12, &mut places);
+    let mut marks = [0u32; 4096];
+    sheet::mark_arcs(start, plan.arcs, plan.first, &mut marks);
+    let mut index = [0u32; 135168];
+    bytype::index_types(start, plan.instances, &mut index);
+    let devices = any_device(entries, all);
+    let mut ends = [0u32; 135168];
+    byend::index_ends(start, plan.arcs, plan.first, devices, &mut ends);
     copy_sheet(start, out);
-    let some = all_cells(count, plan.slash);
-    let fault = apply_cells::apply_cells(
-        start, instances, &types, out, run, &index, text, cells, entries, some,
+    let went = applycells::apply_cells(
+        start, text, plan, &places, &marks, &index, &ends, cells, count, entries, out,
     );
-    let went = answer_of(fault);
     if is_refusal(went) {
         copy_sheet(start, out);
     }

@@ -10,7 +10,7 @@ use swap::Patched;
 
 // The answer of a reading: number 0 and what was read, with from, to of each of the header's texts; or a refusal's number and place.
 #[repr(C)]
-#[derive(Drop)]
+#[derive(Clone, Copy)]
 pub struct ReadNumbers {
     pub number: u64,
     pub place: u64,
@@ -23,7 +23,7 @@ pub struct ReadNumbers {
 
 // The answer of a sheet's check: number 0 and the counts, or refusal 10.
 #[repr(C)]
-#[derive(Drop)]
+#[derive(Clone, Copy)]
 pub struct SheetNumbers {
     pub number: u64,
     pub place: u64,
@@ -91,7 +91,7 @@ pub fn no_setting() -> ReadNumbers
 
 // The answer of annotating or patching: number 0, or a refusal's number and its place, which stands in the incoming text if `incoming` is 1.
 #[repr(C)]
-#[derive(Drop)]
+#[derive(Clone, Copy)]
 pub struct ResultNumbers {
     pub number: u64,
     pub place: u64,

@@ -12,7 +12,7 @@ use entryarcs::Plan;
 use meaning::Whom;
 
 // The least fault: its event in the new file, from 0 on, its number, and its word.
-#[derive(Drop)]
+#[derive(Clone, Copy)]
 pub enum Least {
     Nothing,
     Fault {

@@ -9,7 +9,7 @@ use tokenforms::Token;
 use values::expect;
 
 // An instance's path: 0 the top level, 1 from .. to .., 2 '*'.
-#[derive(Drop)]
+#[derive(Clone, Copy)]
 pub enum Instance {
     Path {
         sort: u8,
@@ -24,7 +24,7 @@ pub enum Instance {
 }
 
 // A cell's type and path, and the place behind them.
-#[derive(Drop)]
+#[derive(Clone, Copy)]
 pub enum CellHead {
     Head {
         typefrom: usize,

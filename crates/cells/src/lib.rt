@@ -16,7 +16,7 @@ use values::wrong_at;
 use words::key_of;
 
 // What stands at a place.
-#[derive(Drop)]
+#[derive(Clone, Copy)]
 pub struct Sight {
     pub stopped: bool,
     pub kind: u8,

@@ -7,7 +7,7 @@ ghost use Rattle.marking.specs.Choosing.{Chose};
 use entryarcs::Plan;
 
 // What was chosen: how many arcs, and the number and the place of the first one behind.
-#[derive(Drop)]
+#[derive(Clone, Copy)]
 pub struct Chosen {
     pub count: usize,
     pub next: usize,

@@ -23,7 +23,7 @@ const SAME: u8 = 1;
 const LACKING: u8 = 14;
 
 // What a check found on the starting sheet, and the text's divider: how many instances, how many arcs and where the first one stands.
-#[derive(Drop)]
+#[derive(Clone, Copy)]
 pub struct Plan {
     pub instances: usize,
     pub arcs: usize,

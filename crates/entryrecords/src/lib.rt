@@ -5,7 +5,7 @@ ghost use Rattle.entryrecords.specs.Entries.{numbers_at, entry_of, entries_of};
 use grammar::Entry;
 
 // An entry with its values: how many are written, and the minimum, the typical and the maximum of each of six, as the table has them.
-#[derive(Drop)]
+#[derive(Clone, Copy)]
 pub struct EntryRecord {
     pub head: Entry,
     pub count: usize,

@@ -12,14 +12,14 @@ use tokens::token_from;
 use words::{scale_of, unit_of};
 
 // What TIMESCALE says, 10 ^ unit femtoseconds; and the token in hand behind it.
-#[derive(Drop)]
+#[derive(Clone, Copy)]
 struct Scaled {
     hand: Hand,
     unit: u8,
 }
 
 // A time scale, and where it ends.
-#[derive(Drop)]
+#[derive(Clone, Copy)]
 struct Scale {
     end: Mark,
     unit: u8,

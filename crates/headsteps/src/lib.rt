@@ -15,7 +15,7 @@ use values::{expect, wrong_at};
 use words::{divider_of, key_of};
 
 // What DIVIDER says: whether it is /; and the token in hand behind it.
-#[derive(Drop)]
+#[derive(Clone, Copy)]
 pub struct Divided {
     pub hand: Hand,
     pub slash: bool,

@@ -7,14 +7,14 @@ use entryarcs::Plan;
 use grammar::Cell;
 use sheet::Found;
 
-#[derive(Drop)]
+#[derive(Clone, Copy)]
 pub enum Annotated {
     Done,
     Refused { number: u8, place: usize },
 }
 
 // Which instances a cell's entries apply to: the one at a place, every one of the cell's type, or none, and why.
-#[derive(Drop)]
+#[derive(Clone, Copy)]
 pub enum Whom {
     One(usize),
     Every,

@@ -12,7 +12,7 @@ use tokenforms::Token;
 use tokens::token_from;
 
 // A token, and where a reader of names stands behind it.
-#[derive(Drop)]
+#[derive(Clone, Copy)]
 pub struct Shaped {
     pub token: Token,
     pub state: u8,

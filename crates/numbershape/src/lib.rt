@@ -13,7 +13,7 @@ const STOP: u64 = 1_000_000_000_000_001;
 
 // What a word at a number's place is: a time in femtoseconds, within 10^15 either way; finer than a femtosecond (refusal 6);
 // whole, but beyond 10^15 (7); no number at all (4).
-#[derive(Drop)]
+#[derive(Clone, Copy)]
 pub enum Number {
     Time(i64),
     Fine,
@@ -22,14 +22,14 @@ pub enum Number {
 }
 
 // A run of digits: where it ends, and the number it makes of the one before it, stopped at 10^15 + 1.
-#[derive(Drop)]
+#[derive(Clone, Copy)]
 pub struct Scanned {
     pub end: usize,
     pub value: u64,
 }
 
 // Where a number's parts stand in its word: digits from `start` to `point`, behind a point to `end`, the exponent's from `power` on.
-#[derive(Drop)]
+#[derive(Clone, Copy)]
 pub struct Parts {
     pub minus: bool,
     pub start: usize,
@@ -40,21 +40,21 @@ pub struct Parts {
 }
 
 // An exponent that goes on to the word's end, or none: its sign, and where its digits start.
-#[derive(Drop)]
+#[derive(Clone, Copy)]
 pub enum Power {
     Stands { below: bool, power: usize },
     Nowhere,
 }
 
 // A word's parts, if it has a number's shape.
-#[derive(Drop)]
+#[derive(Clone, Copy)]
 pub enum Found {
     Split(Parts),
     Misshapen,
 }
 
 // The digits read: their number, stopped at 10^15 + 1; how many more are to be kept; whether one past those is not 0.
-#[derive(Drop)]
+#[derive(Clone, Copy)]
 pub struct Digits {
     pub value: u64,
     pub left: usize,

@@ -17,7 +17,7 @@ use swap::Patched;
 use swaparcs::Swap;
 
 // The answer, with the number of cells that were read of the file and of the incoming text: none of a text that was refused or not reached.
-#[derive(Drop)]
+#[derive(Clone, Copy)]
 pub struct Counted {
     pub answer: Patched,
     pub cells: usize,

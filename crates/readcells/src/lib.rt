@@ -17,7 +17,7 @@ use tokens::token_from;
 use values::wrong_at;
 
 // Behind a cell: the next one's keyword in hand, or the place behind the file's closing bracket.
-#[derive(Drop)]
+#[derive(Clone, Copy)]
 pub enum More {
     Next(Hand),
     Last(usize),
@@ -25,7 +25,7 @@ pub enum More {
 }
 
 // A text was read, with so many cells and entries; or refused.
-#[derive(Drop)]
+#[derive(Clone, Copy)]
 pub enum Answer {
     Read { cells: usize, entries: usize },
     Refused { number: u8, place: usize },
@@ -271,7 +271,7 @@ pub fn read_cells(
 
 // A whole file: the answer; the divider, the time scale as a power of ten in femtoseconds, and where the header's texts stand (from .. to ..
 // of each, by the number that header_text takes; 0 .. 0 for a missing one).
-#[derive(Drop)]
+#[derive(Clone, Copy)]
 pub struct FileRead {
     pub answer: Answer,
     pub slash: bool,

@@ -10,7 +10,7 @@ use readcells::{Answer, FileRead};
 const LIMIT: usize = 16777216;
 
 // One pass through a file.
-#[derive(Drop)]
+#[derive(Clone, Copy)]
 pub struct Pass {
     pub answer: Answer,
     pub slash: bool,

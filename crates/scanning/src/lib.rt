@@ -8,14 +8,14 @@ ghost use Rattle.scanning.specs.Runs.{WhiteTo, SkippedTo, commented, bracketed, 
 use classes::{class_of, is_legal, is_plain, is_white, is_within, mark_of};
 
 // White space and comments: where in them one stands.
-#[derive(Drop)]
+#[derive(Clone, Copy)]
 pub struct Blank {
     pub mode: u8,
     pub since: usize,
 }
 
 // Where the white space and the comments from a place on end, and in which state.
-#[derive(Drop)]
+#[derive(Clone, Copy)]
 pub struct Skipped {
     pub place: usize,
     pub blank: Blank,

@@ -12,7 +12,7 @@ ghost use Rattle.sheet.specs.Find.{second_wanted, wanted, find_arc, find_instanc
 ghost use Rattle.sheet.specs.Same.{same_keys, same_records};
 
 // The place of the record with a key, or that there is none.
-#[derive(Drop)]
+#[derive(Clone, Copy)]
 pub enum Found {
     At(usize),
     Nothing,

@@ -20,14 +20,14 @@ const END: u8 = 1;
 const TYPE: u8 = 2;
 
 // The next place to read at, or the first fault.
-#[derive(Drop)]
+#[derive(Clone, Copy)]
 pub enum Step {
     Next(usize),
     Fault { number: u8, place: usize },
 }
 
 // A sheet's counts and the place of its first arc, or its first fault.
-#[derive(Drop)]
+#[derive(Clone, Copy)]
 pub enum SheetCheck {
     Good {
         instances: usize,

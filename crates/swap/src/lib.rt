@@ -13,7 +13,7 @@ use entryarcs::Plan;
 use swaparcs::Swap;
 
 // The answer: done, or the number of the refusal, its place and whether it is in the incoming text.
-#[derive(Drop)]
+#[derive(Clone, Copy)]
 pub enum Patched {
     Done,
     Refused {

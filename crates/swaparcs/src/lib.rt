@@ -6,7 +6,7 @@ ghost use Rattle.swaparcs.specs.Loops.{better_of, is_fault};
 use arcrun::Least;
 
 // What is swapped: the number of the outgoing cell, from 0 on, among so many; how many entries stand before it, how many go and how many come.
-#[derive(Drop)]
+#[derive(Clone, Copy)]
 pub struct Swap {
     pub outgoing: usize,
     pub cells: usize,

@@ -13,7 +13,7 @@ use numbershape::{Digits, Found, Number};
 const STOP: u64 = 1_000_000_000_000_001;
 
 // Digits, with or without a point and digits behind it: their number, stopped at 10^15 + 1, how many stand behind the point, and where they end.
-#[derive(Drop)]
+#[derive(Clone, Copy)]
 enum Plain {
     Value {
         value: u64,
@@ -24,7 +24,7 @@ enum Plain {
 }
 
 // A time read where it stands, and where it ends.
-#[derive(Drop)]
+#[derive(Clone, Copy)]
 pub enum Plainly {
     Time { femtoseconds: i64, end: usize },
     Other,

@@ -7,7 +7,7 @@ ghost use Rattle.tokenforms.specs.Tokens.{token_here, string_at, token_at, spoil
 use classes::{class_of, mark_of};
 
 // What stands at a place of a text.
-#[derive(Drop)]
+#[derive(Clone, Copy)]
 pub enum Token {
     // A token: the kind is its class for a mark (2 to 5) and for a byte that no rule allows (12), 6 for a string, 7 for a word.
     // Long: a word, or a string's content, of over 1,024 bytes.
@@ -25,7 +25,7 @@ pub enum Token {
 }
 
 // Where a string's content stops, and in which state.
-#[derive(Drop)]
+#[derive(Clone, Copy)]
 pub struct Content {
     pub place: usize,
     pub state: u8,

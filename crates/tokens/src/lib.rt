@@ -121,7 +121,7 @@ pub fn count_tokens(text: &[u8]) -> usize
 }
 
 // The mark from a place on, or 0 where none is seen at once; and the place behind white space, from which the token is the same.
-#[derive(Drop)]
+#[derive(Clone, Copy)]
 pub struct Sign {
     pub kind: u8,
     pub place: usize,

@@ -119,7 +119,7 @@ pub fn expect(text: &[u8], from: usize, mark: u8) -> Mark
 }
 
 // The beginning of a value: all of it; or its first colon, and what stands before that; or a refusal.
-#[derive(Drop)]
+#[derive(Clone, Copy)]
 pub enum Lead {
     Whole { v: Value, end: usize },
     Colon { some: bool, min: Amount, end: usize },
@@ -127,14 +127,14 @@ pub enum Lead {
 }
 
 // A value's second colon, what stands between it and the first, and whether any number stands before it; or a refusal.
-#[derive(Drop)]
+#[derive(Clone, Copy)]
 pub enum Middle {
     Colon { some: bool, typ: Amount, end: usize },
     Refused { number: u8, place: usize },
 }
 
 // What stands where a number may: a time; a closing bracket or a colon, of kind 3 or 4; or a refusal.
-#[derive(Drop)]
+#[derive(Clone, Copy)]
 pub enum Seen {
     Time { z: i64, end: usize },
     Mark { kind: u8, start: usize, end: usize },
