@@ -1,0 +1,60 @@
+-- `apply::write_every` meets its contract. Invariant: what is made of the sheet in the instances so far that are of the type is written.
+use mathlib.Core.Path.{◌≡◌, refl, ◌∙◌, ap}
+use mathlib.Core.Logic.{⊎_elim}
+use native.Mathlib.Omega.{arith}
+use lib.ListN.{length}
+use Rattle.sheetlaws.specs.Sheet.{nth}
+use Rattle.applying.specs.Bytes.{written_of, written_every}
+use Rattle.entryarcs.specs.Turns.{written_with, written_without, instance-whole, instance-more, typed, type-is, writes_in}
+use Rattle.apply.proofs.write_every.Goals as goal
+
+pub loop-k-init : goal.loop-k-init
+unfolding nth written_of
+loop-k-init c = (omega arith, refl, refl, refl)
+
+pub is_of-requires : goal.is_of-requires
+is_of-requires c =
+    instance-whole c.args.start.now c.loop-k.k 12 c.loop-k.here c.args.plan.instances c.requires.instances (omega arith) c.loop-k.invariant.1
+
+pub write_in-requires : goal.write_in-requires
+write_in-requires c =
+    let whole = instance-whole c.args.start.now c.loop-k.k 12 c.loop-k.here c.args.plan.instances c.requires.instances (omega arith)
+    c.loop-k.invariant.1 in
+    (record { arcs = c.requires.search.good; long = c.loop-k.invariant.3 ∙ c.requires.long; there = whole }, c.requires.search)
+
+pub next_instance-here-requires : goal.next_instance-here-requires
+next_instance-here-requires c =
+    instance-whole c.args.start.now c.loop-k.k 12 c.loop-k.here c.args.plan.instances c.requires.instances (omega arith) c.loop-k.invariant.1
+
+pub loop-k-preserved : goal.loop-k-preserved
+loop-k-preserved c =
+    let test = typed c.args.start.now c.args.celltype.now in
+    let write = writes_in c.args.start.now c.args.text.now c.args.plan.slash c.args.plan.instances c.args.plan.arcs c.args.plan.first c.args.entry
+    c.args.rows in
+    let is = type-is c.args.start.now c.args.celltype.now c.loop-k.k c.loop-k.here _ c.loop-k.invariant.1 c.is_of.ensures in
+    let next = instance-more c.args.start.now c.loop-k.k 12 c.loop-k.here _ c.loop-k.invariant.1 c.next_instance-here.ensures in
+    ⊎_elim
+    (λ w. (
+      omega arith,
+      next,
+      written_with test c.loop-k.k write c.args.out.now _ c.loop-k.out (is ∙ w.0.taken) c.loop-k.invariant.2
+          (w.5 ∙ w.2.ensures ∙ rw c.loop-k.invariant.1),
+      ap length w.5 ∙ w.3.given ∙ c.loop-k.invariant.3,
+    ))
+    (λ w. (
+      omega arith,
+      next,
+      written_without test c.loop-k.k write c.args.out.now _ (is ∙ w.0.left) (w.1 ∙ c.loop-k.invariant.2),
+      ap length w.1 ∙ c.loop-k.invariant.3,
+    ))
+    c.if-is_of.branch
+
+pub shape_of-out : goal.shape_of-out
+shape_of-out c =
+    c.loop-k.invariant.3
+
+pub returns : goal.returns
+unfolding written_every
+returns c =
+    let e : c.loop-k.k ≡ c.args.plan.instances = omega arith in
+    rw e at c.loop-k.invariant.2

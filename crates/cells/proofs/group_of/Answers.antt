@@ -1,0 +1,18 @@
+-- `cells::group_of` meets its contract: by the place.
+use Rattle.cells.proofs.Tags.{is-cell, is_delay_lem, is-absolute, is-increment, is_check_lem}
+use Rattle.cells.proofs.group_of.Goals as goal
+
+pub returns-in-Absolute : goal.returns-in-Absolute
+returns-in-Absolute c = rw (is-absolute c.args.within c.in-Absolute.in-Absolute-own.keys1)
+
+pub returns-in-Increment : goal.returns-in-Increment
+returns-in-Increment c = rw (is-increment c.args.within c.in-Increment.in-Increment-own.keys2)
+
+pub returns-in-Check : goal.returns-in-Check
+returns-in-Check c = rw (is_check_lem c.args.within c.in-Check.in-Check-own.keys3)
+
+pub returns-in-Cell : goal.returns-in-Cell
+returns-in-Cell c = rw (is-cell c.args.within c.in-Cell.in-Cell-own.keys4)
+
+pub returns-in-Delay : goal.returns-in-Delay
+returns-in-Delay c = rw (is_delay_lem c.args.within c.in-Delay.in-Delay-own.keys5)

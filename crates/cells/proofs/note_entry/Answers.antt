@@ -1,0 +1,11 @@
+-- `cells::note_entry` meets its contract.
+use mathlib.Core.Path.{◌∙◌}
+use Rattle.cells.proofs.note_entry.Goals as goal
+
+pub returns-then-fill : goal.returns-then-fill
+returns-then-fill c =
+    c.put_entry.ensures ∙ rw c.if-fill.true
+
+pub returns-else-fill : goal.returns-else-fill
+returns-else-fill c =
+    rw c.if-fill.false

@@ -1,0 +1,19 @@
+-- `devices::refusal_chained` meets its contract. Invariant: whether one of the arcs before k is meant, the least refusal of those that are, and k is on the chain of the path's bucket.
+use Rattle.entryarcs.specs.Turns.{hits, refuses}
+use Rattle.applying.specs.Bytes.{some_of, least_of}
+use Rattle.byend.specs.Ends.{end_bucket}
+use Rattle.bytype.specs.Chains.{OnChain}
+use Rattle.bytype.specs.ByType.{bucket_of}
+use Rattle.sheetparts.specs.Form.{path_at}
+use mathlib.Core.Path.{◌≡◌}
+use Prim.Native.Nat.{◌-◌}
+use Rattle.devices.proofs.refusal_chained.Given as goal
+
+abbrev pub invariant-loop-k : goal.invariant-loop-k
+invariant-loop-k l =
+    OnChain (end_bucket l.start l.plan.first) l.plan.arcs (bucket_of (path_at l.start l.instance)) l.k
+    × (l.some ≡ some_of (hits l.start l.text l.plan.slash l.plan.first l.entry l.instance) l.k)
+    × (l.least ≡ least_of (hits l.start l.text l.plan.slash l.plan.first l.entry l.instance) (refuses l.start l.out l.plan.first l.entry l.rows) l.k)
+
+abbrev pub decreases-loop-k : goal.decreases-loop-k
+decreases-loop-k l = l.plan.arcs - l.k

@@ -1,0 +1,20 @@
+-- `devices::write_chained` meets its contract. Invariant: what the arcs before k that are meant make of the sheet is written, and k is on the chain of the path's bucket.
+use Rattle.entryarcs.specs.Turns.{hits, writes}
+use Rattle.applying.specs.Bytes.{written_of}
+use Rattle.byend.specs.Ends.{end_bucket}
+use Rattle.bytype.specs.Chains.{OnChain}
+use Rattle.bytype.specs.ByType.{bucket_of}
+use Rattle.sheetparts.specs.Form.{path_at}
+use lib.ListN.{length}
+use mathlib.Core.Path.{◌≡◌}
+use Prim.Native.Nat.{◌-◌}
+use Rattle.devices.proofs.write_chained.Given as goal
+
+abbrev pub invariant-loop-k : goal.invariant-loop-k
+invariant-loop-k l =
+    OnChain (end_bucket l.start l.plan.first) l.plan.arcs (bucket_of (path_at l.start l.instance)) l.k
+    × (l.out ≡ written_of (hits l.start l.text l.plan.slash l.plan.first l.entry l.instance) (writes l.start l.plan.first l.entry l.rows) l.initial.out l.k)
+    × (length l.out ≡ length l.initial.out)
+
+abbrev pub decreases-loop-k : goal.decreases-loop-k
+decreases-loop-k l = l.plan.arcs - l.k

@@ -1,0 +1,67 @@
+-- `entryarcs::device_write` meets its contract. Invariant: what the arcs so far that are meant make of the sheet is written.
+use mathlib.Core.Path.{◌≡◌, refl, ◌∙◌, ap}
+use mathlib.Core.Logic.{⊎_elim}
+use native.Mathlib.Omega.{arith}
+use lib.ListN.{length}
+use Rattle.sheetlaws.specs.Sheet.{nth}
+use Rattle.applying.specs.Bytes.{written_of, device_written}
+use Rattle.entryarcs.specs.Turns.{written_with, written_without, arc-whole, arc-more, hits, writes, hit-is}
+use Rattle.entryarcs.proofs.device_write.Goals as goal
+
+pub loop-k-init : goal.loop-k-init
+unfolding nth written_of
+loop-k-init c = (omega arith, refl, refl, refl)
+
+pub device_hit-requires : goal.device_hit-requires
+device_hit-requires c =
+    (
+      c.requires.there,
+      arc-whole c.args.start.now c.loop-k.k c.args.plan.first c.loop-k.here c.args.plan.arcs c.requires.arcs (omega arith) c.loop-k.invariant.1,
+    )
+
+pub values_place-values-requires : goal.values_place-values-requires
+values_place-values-requires c =
+    arc-whole c.args.start.now c.loop-k.k c.args.plan.first c.loop-k.here c.args.plan.arcs c.requires.arcs (omega arith) c.loop-k.invariant.1
+
+pub write_arc-requires : goal.write_arc-requires
+write_arc-requires c =
+    let whole = arc-whole c.args.start.now c.loop-k.k c.args.plan.first c.loop-k.here c.args.plan.arcs c.requires.arcs (omega arith)
+    c.loop-k.invariant.1 in
+    rw (c.values_place-values.ensures, c.loop-k.invariant.3, c.requires.long) whole
+
+pub next_arc-here-requires : goal.next_arc-here-requires
+next_arc-here-requires c =
+    arc-whole c.args.start.now c.loop-k.k c.args.plan.first c.loop-k.here c.args.plan.arcs c.requires.arcs (omega arith) c.loop-k.invariant.1
+
+pub loop-k-preserved : goal.loop-k-preserved
+loop-k-preserved c =
+    let test = hits c.args.start.now c.args.text.now c.args.plan.slash c.args.plan.first c.args.entry c.args.instance in
+    let write = writes c.args.start.now c.args.plan.first c.args.entry c.args.rows in
+    let hit = hit-is c.args.start.now c.args.text.now c.args.plan.slash c.args.plan.first c.args.entry c.args.instance c.loop-k.k c.loop-k.here _ c.loop-k.invariant.1
+    c.device_hit.ensures in
+    let next = arc-more c.args.start.now c.loop-k.k c.args.plan.first c.loop-k.here _ c.loop-k.invariant.1 c.next_arc-here.ensures in
+    ⊎_elim
+    (λ w. (
+      omega arith,
+      next,
+      written_with test c.loop-k.k write c.args.out.now _ c.loop-k.out (hit ∙ w.0.taken) c.loop-k.invariant.2
+          (w.7 ∙ w.4.ensures ∙ rw (w.1.ensures, c.loop-k.invariant.1)),
+      ap length w.7 ∙ w.5.given ∙ c.loop-k.invariant.3,
+    ))
+    (λ w. (
+      omega arith,
+      next,
+      written_without test c.loop-k.k write c.args.out.now _ (hit ∙ w.0.left) (w.1 ∙ c.loop-k.invariant.2),
+      ap length w.1 ∙ c.loop-k.invariant.3,
+    ))
+    c.if-device_hit.branch
+
+pub shape_of-out : goal.shape_of-out
+shape_of-out c =
+    c.loop-k.invariant.3
+
+pub returns : goal.returns
+unfolding device_written
+returns c =
+    let e : c.loop-k.k ≡ c.args.plan.arcs = omega arith in
+    rw (← e) c.loop-k.invariant.2

@@ -1,0 +1,6 @@
+-- `entryarcs::is_of` meets its contract.
+use Rattle.entryarcs.proofs.is_of.Goals as goal
+
+pub returns : goal.returns
+returns c =
+    rw (← c.instance_type-own.ensures) c.same_text.ensures

@@ -1,0 +1,48 @@
+-- `nearby::is_near` meets its contract. Invariant: the first i arcs cannot be touched.
+use mathlib.Core.Path.{◌≡◌, sym, ◌∙◌}
+use native.Mathlib.Omega.{arith}
+use borrow.Author.Tests.{ne_eqb}
+use Rattle.history.specs.EventLaws.{clash}
+use Rattle.nearby.specs.Laws.{one_more}
+use Rattle.nearby.proofs.is_near.Goals as goal
+
+pub returns-then-cell-eq-EVERY : goal.returns-then-cell-eq-EVERY
+returns-then-cell-eq-EVERY c = λ e. clash (sym e)
+
+pub returns-then-count-gt-FEW : goal.returns-then-count-gt-FEW
+returns-then-count-gt-FEW c = λ e. clash (sym e)
+
+pub loop-i-init : goal.loop-i-init
+loop-i-init c = (omega arith, λ i h. absurd (omega arith))
+
+pub offset_bounds-arcs-i : goal.offset_bounds-arcs-i
+offset_bounds-arcs-i c =
+    omega (arith, c.loop-i-test.true, c.requires.1)
+
+pub bounds-arcs-i : goal.bounds-arcs-i
+bounds-arcs-i c =
+    omega (arith, c.loop-i-test.true, c.requires.1)
+
+pub may_touch-requires : goal.may_touch-requires
+may_touch-requires c =
+    c.requires.0 c.loop-i.i c.loop-i-test.true
+
+pub returns-then-may_touch : goal.returns-then-may_touch
+returns-then-may_touch c = λ e. clash (sym e)
+
+pub overflow_add-i : goal.overflow_add-i
+overflow_add-i c =
+    omega (arith, c.loop-i-test.true, c.requires.1)
+
+pub loop-i-smaller : goal.loop-i-smaller
+loop-i-smaller c =
+    omega (arith, c.loop-i-test.true, c.requires.1)
+
+pub loop-i-preserved : goal.loop-i-preserved
+loop-i-preserved c =
+    (omega (arith, c.loop-i-test.true), one_more _ c.loop-i.i c.loop-i.invariant.1 (sym c.may_touch.ensures ∙ c.if-may_touch.false))
+
+pub returns : goal.returns
+returns c =
+    let e : c.loop-i.i ≡ c.args.count = omega (arith, c.loop-i-test.false, c.loop-i.invariant.0) in
+    λ h. (ne_eqb _ 2 c.if-cell-eq-EVERY.false, rw e at c.loop-i.invariant.1)

@@ -1,0 +1,27 @@
+-- `readrecords::read_cell_within` meets its contract.
+use Prim.Native.Nat.{◌*◌, ◌/◌, ◌≤◌}
+use mathlib.Core.Path.{◌≡◌, sym}
+use native.Mathlib.Omega.{arith}
+use lib.ListN.{length, take}
+use lib.Seq.{length-take-le}
+use borrow.Author.Rules.{rules}
+use Rattle.grammar.specs.Outcome.{read_cell_of}
+use Rattle.readrecords.specs.ReadingLaws.{within-part, within-whole}
+use Rattle.readrecords.proofs.read_cell_within.Goals as goal
+
+pub slice_bounds-read_cell-end-then-room-table : goal.slice_bounds-read_cell-end-then-room-table
+slice_bounds-read_cell-end-then-room-table c =
+    let inside : 7 * c.args.room ≤ length c.args.table.now = omega (arith, c.if-room-table.true) in
+    sym (length-take-le (7 * c.args.room) c.args.table.now inside)
+
+pub returns-then-room-table : goal.returns-then-room-table
+returns-then-room-table c =
+    let same : length c.read_cell.new.1.1.1.0 ≡ length (take (7 * c.args.room) c.args.table.now) = search rules in
+    within-part (λ k. read_cell_of c.args.slash c.args.unit k (length c.args.entries.now / 28) c.args.text.now) c.args.room c.args.table.now c.read_cell.new.1.1.1.0
+    c.args.entries.now c.read_cell.new.1.1.1.1.0 c.read_cell.result c.if-room-table.true c.read_cell.ensures same
+
+pub returns : goal.returns
+returns c =
+    let same : length c.read_cell-2.new.1.1.1.0 ≡ length c.args.table.now = search rules in
+    within-whole (λ k. read_cell_of c.args.slash c.args.unit k (length c.args.entries.now / 28) c.args.text.now) c.args.room c.args.table.now c.read_cell-2.new.1.1.1.0
+    c.args.entries.now c.read_cell-2.new.1.1.1.1.0 c.read_cell-2.result c.if-room-table.false c.read_cell-2.ensures same

@@ -1,0 +1,28 @@
+-- `records::annotate_within` meets its contract.
+use Prim.Native.Nat.{◌*◌, ◌/◌, ◌≤◌}
+use mathlib.Core.Path.{◌≡◌, sym}
+use native.Mathlib.Omega.{arith}
+use lib.ListN.{length, take}
+use lib.Seq.{length-take-le}
+use borrow.Author.Rules.{rules}
+use Rattle.records.specs.AnnotatingLaws.{counted_part, counted_whole}
+use Rattle.records.proofs.annotate_within.Goals as goal
+
+pub slice_bounds-annotate_counted-end-then-room-table : goal.slice_bounds-annotate_counted-end-then-room-table
+slice_bounds-annotate_counted-end-then-room-table c =
+    let inside : 7 * c.args.room ≤ length c.args.table.now = omega (arith, c.if-room-table.true) in
+    sym (length-take-le (7 * c.args.room) c.args.table.now inside)
+
+pub returns-then-room-table : goal.returns-then-room-table
+returns-then-room-table c =
+    let same : length c.annotate_counted.new.1.1.0 ≡ length (take (7 * c.args.room) c.args.table.now) = search rules in
+    counted_part c.args.start.now c.args.text.now (length c.args.entries.now / 28) (length c.args.out.now) c.args.room c.args.table.now
+    c.annotate_counted.new.1.1.0 c.args.entries.now c.annotate_counted.new.1.1.1.0 c.args.out.now c.annotate_counted.new.1.1.1.1.0 c.annotate_counted.result
+    c.if-room-table.true c.annotate_counted.ensures same
+
+pub returns : goal.returns
+returns c =
+    let same : length c.annotate_counted-2.new.1.1.0 ≡ length c.args.table.now = search rules in
+    counted_whole c.args.start.now c.args.text.now (length c.args.entries.now / 28) (length c.args.out.now) c.args.room c.args.table.now
+    c.annotate_counted-2.new.1.1.0 c.args.entries.now c.annotate_counted-2.new.1.1.1.0 c.args.out.now c.annotate_counted-2.new.1.1.1.1.0 c.annotate_counted-2.result
+    c.if-room-table.false c.annotate_counted-2.ensures same

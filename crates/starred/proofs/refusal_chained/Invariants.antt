@@ -1,0 +1,16 @@
+-- `starred::refusal_chained` meets its contract. Invariant: the least refusal in the instances before k that are of the type, and k is on the chain of the type's bucket.
+use Rattle.applying.specs.Bytes.{least_of}
+use Rattle.entryarcs.specs.Turns.{typed, refuses_in}
+use Rattle.bytype.specs.Chains.{OnChain}
+use Rattle.bytype.specs.ByType.{bucket_of, type_bucket}
+use mathlib.Core.Path.{◌≡◌}
+use Prim.Native.Nat.{◌-◌}
+use Rattle.starred.proofs.refusal_chained.Given as goal
+
+abbrev pub invariant-loop-k : goal.invariant-loop-k
+invariant-loop-k l =
+    OnChain (type_bucket l.start) l.plan.instances (bucket_of l.celltype) l.k
+    × (l.least ≡ least_of (typed l.start l.celltype) (refuses_in l.start l.text l.plan.slash l.plan.instances l.plan.arcs l.plan.first l.entry l.rows l.out) l.k)
+
+abbrev pub decreases-loop-k : goal.decreases-loop-k
+decreases-loop-k l = l.plan.instances - l.k
