@@ -1,7 +1,7 @@
 -- `cells::read_body` meets its contract: these entries have been read, and their rows written where the table is filled.
 use Prim.Native.Nat.{◌+◌, ◌-◌}
 use mathlib.Core.Path.{refl, sym, ◌∙◌, ap}
-use mathlib.Core.List.{◌∷◌, ◌++◌}
+use mathlib.Core.List.{[], ◌∷◌, ◌++◌}
 use native.Mathlib.Omega.{arith}
 use lib.ListN.{take, length-append}
 use Rattle.grammar.specs.declared.Status.TheVariants as status

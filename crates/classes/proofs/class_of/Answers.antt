@@ -1,6 +1,6 @@
 -- `classes::class_of` meets its contract: what each arm answers is computed.
 use mathlib.Core.Path.{refl}
-use mathlib.Core.List.{List, ◌∷◌}
+use mathlib.Core.List.{List, [], ◌∷◌}
 use Prim.Native.Nat.{ℕ}
 use native.Mathlib.Omega.{arith}
 use Rattle.classes.specs.Classes.{class_of}

@@ -1,5 +1,6 @@
 -- `entries::read_check` meets its contract: each way through it has its rule.
 use mathlib.Core.Path.{refl, sym, ◌∙◌}
+use mathlib.Core.List.{[]}
 use mathlib.Core.Logic.{inl, inr}
 use native.Mathlib.Omega.{arith}
 use lib.ListN.{take}

@@ -5,7 +5,7 @@ use Rattle.entryseats.proofs.run_entry.Goals as goal
 
 pub run_found-requires : goal.run_found-requires
 run_found-requires c =
-    (c.requires.0, c.requires.1, c.requires.2, rw c.in-One.is at c.requires.3, c.requires.4, c.requires.5, c.requires.6, c.requires.7, rw (← c.head_at-entry.ensures) (not-true _ c.if-entry-ne-DEVICE.true))
+    (c.requires.0, c.requires.1, c.requires.2, rw c.in-One.is at c.requires.3, c.requires.4, c.requires.5, c.requires.6, c.requires.7, rw (← c.head_at-entry.ensures) (c.if-entry-ne-DEVICE.true))
 
 pub returns-in-One : goal.returns-in-One
 returns-in-One c =

@@ -1,5 +1,6 @@
 -- `header::read_header` meets its contract: step by step.
 use mathlib.Core.Path.{refl}
+use mathlib.Core.List.{[]}
 use borrow.Author.Rules.{rules}
 use Rattle.headsteps.specs.Header.{header_read}
 use Rattle.header.proofs.read_header.Goals as goal

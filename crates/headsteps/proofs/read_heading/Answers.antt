@@ -1,6 +1,6 @@
 -- `headsteps::read_heading` meets its contract: the places between the quotes are what is written.
 use mathlib.Core.Bool.{false}
-use mathlib.Core.List.{◌∷◌}
+use mathlib.Core.List.{[], ◌∷◌}
 use native.Mathlib.Omega.{arith}
 use borrow.Author.Rules.{rules}
 use Rattle.grammar.specs.declared.Hand.TheVariants as held

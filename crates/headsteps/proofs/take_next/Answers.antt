@@ -1,5 +1,5 @@
 -- `headsteps::take_next` meets its contract.
-use mathlib.Core.List.{◌∷◌}
+use mathlib.Core.List.{[], ◌∷◌}
 use Rattle.grammar.specs.declared.Mark.TheVariants as mark
 use Rattle.grammar.specs.Grammar.{⟨}
 use Rattle.rules.specs.Promises.{Marked}

@@ -1,4 +1,5 @@
 -- `headsteps::take_opened` meets its contract.
+use mathlib.Core.List.{[]}
 use Rattle.grammar.specs.declared.Mark.TheVariants as mark
 use Rattle.rules.specs.Promises.{Marked}
 use Rattle.headsteps.specs.Header.{mark-not, mark_then}

@@ -26,7 +26,7 @@ returns-then-not-is_name_byte c = c.loop-i.invariant
 pub loop-i-preserved : goal.loop-i-preserved
 loop-i-preserved c =
     let d : get_or c.args.text.now c.loop-i.i 0 ≡ divider c.args.slash = c.if-byte-divider.false ∙ c.divider_of-divider.ensures in
-    let b : is_name_byte (get_or c.args.text.now (c.loop-i.i + 1) 0) ≡ true = ap is_name_byte (sym c.peek.ensures) ∙ sym c.is_name_byte-else-is_name_byte.ensures ∙ not-false _ c.if-not-is_name_byte.false in
+    let b : is_name_byte (get_or c.args.text.now (c.loop-i.i + 1) 0) ≡ true = ap is_name_byte (sym c.peek.ensures) ∙ sym c.is_name_byte-else-is_name_byte.ensures ∙ c.if-not-is_name_byte.false in
     one-divider c.args.text.now c.args.slash c.args.from c.loop-i.i c.loop-i.invariant (search rules) d b
 
 pub returns : goal.returns

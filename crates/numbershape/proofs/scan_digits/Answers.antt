@@ -14,7 +14,7 @@ use Rattle.numbershape.proofs.scan_digits.Goals as goal
 
 pub returns-then-not-is_digit : goal.returns-then-not-is_digit
 returns-then-not-is_digit c =
-    let e = run-stop c.args.word.now c.loop-i.i (search rules) (sym c.is_digit.ensures ∙ not-true _ c.if-not-is_digit.true) in
+    let e = run-stop c.args.word.now c.loop-i.i (search rules) (sym c.is_digit.ensures ∙ c.if-not-is_digit.true) in
     record {
       end = omega (arith, e);
       within = search rules;
@@ -24,7 +24,7 @@ returns-then-not-is_digit c =
 
 pub loop-i-preserved : goal.loop-i-preserved
 loop-i-preserved c =
-    let d = sym c.is_digit.ensures ∙ not-false _ c.if-not-is_digit.false in
+    let d = sym c.is_digit.ensures ∙ c.if-not-is_digit.false in
     let v = c.put-value.ensures.0 ∙ ap (λ n. min (c.loop-i.value * 10 + n) stop) c.digit.ensures.0 in (
       search rules,
       search rules,

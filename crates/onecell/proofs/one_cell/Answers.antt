@@ -1,7 +1,7 @@
 -- `onecell::one_cell` meets its contract: the bracket, the word CELL, the rest of the cell, and the text's end.
 use mathlib.Core.Path.{refl}
 use mathlib.Core.Bool.{false}
-use mathlib.Core.List.{◌∷◌}
+use mathlib.Core.List.{[], ◌∷◌}
 use native.Mathlib.Omega.{arith}
 use Rattle.tokens.specs.Stream.{onwards}
 use Rattle.headsteps.specs.Steps.{Takes}

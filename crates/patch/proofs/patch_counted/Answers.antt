@@ -25,11 +25,11 @@ returns-then-not-same_records c =
     rw c.refused_after-then-not-same_records.ensures (patch_records c.args.start.now c.args.file.now c.args.number c.args.incoming.now c.args.current.now
     (length c.args.cells.now / 7) (length c.args.entries.now / 28) (length c.args.cells2.now / 7) (length c.args.entries2.now / 28)
     c.args.cells.now c.args.entries.now c.args.cells2.now c.args.entries2.now c.in-Good.instances c.in-Good.arcs
-    c.in-Good.first_arc (sym c.check_sheet-check.ensures ∙ c.in-Good.is) c.if-current-start.false (sym c.same_records.ensures ∙ not-true _ c.if-not-same_records.true))
+    c.in-Good.first_arc (sym c.check_sheet-check.ensures ∙ c.in-Good.is) c.if-current-start.false (sym c.same_records.ensures ∙ c.if-not-same_records.true))
 
 pub patch_file-requires : goal.patch_file-requires
 patch_file-requires c =
-    ((sym c.check_sheet-check.ensures ∙ c.in-Good.is), c.if-current-start.false, sym c.same_records.ensures ∙ not-false _ c.if-not-same_records.false)
+    ((sym c.check_sheet-check.ensures ∙ c.in-Good.is), c.if-current-start.false, sym c.same_records.ensures ∙ c.if-not-same_records.false)
 
 pub returns-in-Bad : goal.returns-in-Bad
 returns-in-Bad c =

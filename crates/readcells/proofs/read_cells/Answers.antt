@@ -1,7 +1,7 @@
 -- `readcells::read_cells` meets its contract: these cells have been read, and their records written where the tables are filled.
 use Prim.Native.Nat.{◌+◌}
 use mathlib.Core.Path.{refl, sym, ◌∙◌}
-use mathlib.Core.List.{◌∷◌, ◌++◌}
+use mathlib.Core.List.{[], ◌∷◌, ◌++◌}
 use native.Mathlib.Omega.{arith}
 use Rattle.tokens.specs.Stream.{onwards}
 use Rattle.grammar.specs.declared.Hand.TheVariants as hand

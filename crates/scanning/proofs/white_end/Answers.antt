@@ -10,12 +10,12 @@ use Rattle.scanning.proofs.white_end.Goals as goal
 
 pub returns-then-not-is_white : goal.returns-then-not-is_white
 returns-then-not-is_white c =
-    let f = sym c.is_white.ensures ∙ not-true _ c.if-not-is_white.true in
+    let f = sym c.is_white.ensures ∙ c.if-not-is_white.true in
     record { on = c.loop-i.invariant.0; fits = c.loop-i.invariant.1; ends = c.loop-i.invariant.2; state = c.loop-i.invariant.3; stop = λ h. eqb-false _ 1 f }
 
 pub loop-i-preserved : goal.loop-i-preserved
 loop-i-preserved c =
-    let k = eqb-true (class_of (get_or c.args.text.now c.loop-i.i 0)) 1 (sym c.is_white.ensures ∙ not-false _ c.if-not-is_white.false) in
+    let k = eqb-true (class_of (get_or c.args.text.now c.loop-i.i 0)) 1 (sym c.is_white.ensures ∙ c.if-not-is_white.false) in
     let w = white_goes c.args.text.now c.loop-i.i (search rules) k in
     (search rules, search rules, w.0 ∙ c.loop-i.invariant.2, w.1 ∙ c.loop-i.invariant.3)
 

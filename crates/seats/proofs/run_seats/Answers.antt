@@ -24,7 +24,7 @@ is_near-requires c =
 
 pub returns-then-not-is_near : goal.returns-then-not-is_near
 returns-then-not-is_near c =
-    let w = rw c.cell_at-cell.ensures at (c.is_near.ensures (not-true _ c.if-not-is_near.true)) in
+    let w = rw c.cell_at-cell.ensures at (c.is_near.ensures (c.if-not-is_near.true)) in
     (refl, seats_skipped c.args.start.now (pick c.args.side c.args.incoming.now c.args.file.now) c.args.plan.slash c.args.plan.instances c.args.plan.arcs c.args.plan.first c.args.side c.args.cells.now c.args.row c.args.entries.now c.args.first c.args.event c.args.arcs.now c.args.flags.now c.args.states.now c.args.count w.0 w.1)
 
 pub whom_of-whom-requires : goal.whom_of-whom-requires

@@ -19,17 +19,17 @@ returns-then-point-start c =
 pub returns-then-not-is_point : goal.returns-then-not-is_point
 returns-then-not-is_point c =
     ap (λ v. Value v 0 c.scan_digits-whole.result.end) c.scan_digits-whole.ensures.value
-    ∙ sym (plain-whole c.args.text.now c.args.start c.scan_digits-whole.result.end c.scan_digits-whole.ensures.end c.if-point-start.false (sym c.is_point.ensures ∙ not-true _ c.if-not-is_point.true))
+    ∙ sym (plain-whole c.args.text.now c.args.start c.scan_digits-whole.result.end c.scan_digits-whole.ensures.end c.if-point-start.false (sym c.is_point.ensures ∙ c.if-not-is_point.true))
 
 pub scan_digits-all-requires : goal.scan_digits-all-requires
 scan_digits-all-requires c =
-    let l = point_within c.args.text.now c.scan_digits-whole.result.end (sym c.is_point.ensures ∙ not-false _ c.if-not-is_point.false) in
+    let l = point_within c.args.text.now c.scan_digits-whole.result.end (sym c.is_point.ensures ∙ c.if-not-is_point.false) in
     (omega arith, c.scan_digits-whole.ensures.bound)
 
 pub returns-then-fraction-eq0 : goal.returns-then-fraction-eq0
 returns-then-fraction-eq0 c =
     sym
-    (plain_pointless c.args.text.now c.args.start c.scan_digits-whole.result.end c.scan_digits-whole.ensures.end c.if-point-start.false c.scan_digits-all.result.end c.scan_digits-all.ensures.end (sym c.is_point.ensures ∙ not-false _ c.if-not-is_point.false)
+    (plain_pointless c.args.text.now c.args.start c.scan_digits-whole.result.end c.scan_digits-whole.ensures.end c.if-point-start.false c.scan_digits-all.result.end c.scan_digits-all.ensures.end (sym c.is_point.ensures ∙ c.if-not-is_point.false)
     c.if-fraction-eq0.true)
 
 pub returns : goal.returns
@@ -39,4 +39,4 @@ returns c =
     = c.scan_digits-all.ensures.value ∙ ap (λ n. min (horner n behind) stop) c.scan_digits-whole.ensures.value
     ∙ min-horner (horner 0 (leading (drop c.args.start c.args.text.now))) behind in
     ap (λ n. Value n (c.scan_digits-all.result.end - (c.scan_digits-whole.result.end + 1)) c.scan_digits-all.result.end) v
-    ∙ sym (plain-pointed c.args.text.now c.args.start c.scan_digits-whole.result.end c.scan_digits-whole.ensures.end c.if-point-start.false c.scan_digits-all.result.end c.scan_digits-all.ensures.end (sym c.is_point.ensures ∙ not-false _ c.if-not-is_point.false) c.if-fraction-eq0.false)
+    ∙ sym (plain-pointed c.args.text.now c.args.start c.scan_digits-whole.result.end c.scan_digits-whole.ensures.end c.if-point-start.false c.scan_digits-all.result.end c.scan_digits-all.ensures.end (sym c.is_point.ensures ∙ c.if-not-is_point.false) c.if-fraction-eq0.false)

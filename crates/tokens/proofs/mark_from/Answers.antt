@@ -15,7 +15,7 @@ returns-then-not-is_white c =
 
 pub loop-i-preserved : goal.loop-i-preserved
 loop-i-preserved c =
-    let k = eqb-true (class_of (get_or c.args.text.now c.loop-i.i 0)) 1 (sym c.is_white.ensures ∙ not-false _ c.if-not-is_white.false) in
+    let k = eqb-true (class_of (get_or c.args.text.now c.loop-i.i 0)) 1 (sym c.is_white.ensures ∙ c.if-not-is_white.false) in
     let w = white_goes c.args.text.now c.loop-i.i (search rules) k in
     (search rules, white_token c.args.text.now _ _ w.0 w.1 ∙ c.loop-i.invariant.1)
 
