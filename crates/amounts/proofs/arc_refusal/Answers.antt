@@ -14,7 +14,7 @@ u64_at-old-requires c = omega arith
 pub loop-slot-preserved : goal.loop-slot-preserved
 unfolding given
 loop-slot-preserved c =
-    (omega arith, c.lesser_of-least.ensures ∙ rw (refusal-more c.args.sheet.now c.args.at c.args.t3 c.args.add c.loop-slot.slot, c.loop-slot.invariant.1, c.refusal_of.ensures, c.u64_at-old.ensures))
+    (omega arith, c.lesser_of-least.ensures ∙ rw (refusal-more c.args.sheet.now c.args.at c.args.rows c.args.add c.loop-slot.slot, c.loop-slot.invariant.1, c.refusal_of.ensures, c.u64_at-old.ensures))
 
 pub returns : goal.returns
 returns c =

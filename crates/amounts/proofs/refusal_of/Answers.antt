@@ -1,6 +1,5 @@
 -- `amounts::refusal_of` meets its contract.
 use Rattle.std.proofs.Common.{◌≡◌, true, false, eq-eqb, ne_eqb}
-use borrow.Author.Tests.{not-true, not-false}
 use Rattle.amounts.specs.Amounts.{refusal}
 use Rattle.amounts.proofs.refusal_of.Goals as goal
 

@@ -11,7 +11,7 @@ loop-slot-init c = (omega arith, refl, refl)
 pub loop-slot-preserved : goal.loop-slot-preserved
 unfolding given
 loop-slot-preserved c =
-    (omega arith, c.write_value.ensures ∙ rw (written-more c.args.sheet.now c.args.at c.args.t3 c.args.add c.loop-slot.slot, c.loop-slot.invariant.1), search rules)
+    (omega arith, c.write_value.ensures ∙ rw (written-more c.args.sheet.now c.args.at c.args.rows c.args.add c.loop-slot.slot, c.loop-slot.invariant.1), search rules)
 
 pub shape_of-sheet : goal.shape_of-sheet
 shape_of-sheet c =

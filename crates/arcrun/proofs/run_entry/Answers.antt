@@ -1,7 +1,7 @@
 -- `arcrun::run_entry` meets its contract.
 use mathlib.Core.Path.{refl, sym, ◌∙◌}
 use native.Mathlib.Omega.{arith}
-use borrow.Author.Tests.{eq-eqb, ne_eqb, not-true, not-false}
+use borrow.Author.Tests.{eq-eqb, ne_eqb}
 use Rattle.meaning.specs.Entries.{rows_at}
 use Rattle.arcrun.specs.Run.{entry_number, entry_state}
 use Rattle.arcrun.proofs.run_entry.Goals as goal

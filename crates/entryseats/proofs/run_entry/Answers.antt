@@ -1,5 +1,4 @@
 -- `entryseats::run_entry` meets its contract.
-use borrow.Author.Tests.{not-true}
 use Rattle.findseat.specs.Laws.{order_there}
 use Rattle.entryseats.proofs.run_entry.Goals as goal
 

@@ -3,7 +3,6 @@ use native.Mathlib.Omega.{arith}
 use mathlib.Core.Path.{◌≡◌, ap, sym, ◌∙◌}
 use mathlib.Core.Bool.{true}
 use lib.ListN.{get_or}
-use borrow.Author.Tests.{not-false}
 use Rattle.nameshape.specs.Shape.{is_name_byte}
 use Rattle.tokens.specs.Quick.{white_token}
 use Rattle.nametokens.specs.ShapeLaws.{within_text, name_word}

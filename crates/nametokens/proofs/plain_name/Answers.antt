@@ -4,7 +4,6 @@ use mathlib.Core.Path.{◌≡◌, ap, sym, ◌∙◌}
 use mathlib.Core.Bool.{true}
 use lib.ListN.{get_or}
 use borrow.Author.Rules.{rules}
-use borrow.Author.Tests.{not-false}
 use Rattle.nameshape.specs.Shape.{is_name_byte, divider}
 use Rattle.nametokens.specs.ShapeLaws.{none_yet, one_byte, one-divider}
 use Rattle.nametokens.proofs.plain_name.Goals as goal

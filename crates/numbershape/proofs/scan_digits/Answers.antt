@@ -3,7 +3,6 @@ use Prim.Native.Nat.{◌+◌, ◌*◌, min}
 use mathlib.Core.Path.{ap, sym, ◌∙◌}
 use native.Mathlib.Omega.{arith}
 use lib.ListN.{drop}
-use borrow.Author.Tests.{not-true, not-false}
 use borrow.Author.Rules.{rules}
 use Rattle.numbershape.specs.Scans.{scan_on, scan_end}
 use Rattle.numbershape.specs.Places.{run_on, run-stop, run_end}

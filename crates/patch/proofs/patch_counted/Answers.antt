@@ -2,7 +2,6 @@
 use Prim.Native.Nat.{◌/◌}
 use mathlib.Core.Path.{sym, ◌∙◌}
 use lib.ListN.{length}
-use borrow.Author.Tests.{not-true, not-false}
 use Rattle.sheet.specs.Find.{sheet_good}
 use Rattle.patch.specs.PatchLaws.{patch-unfit, patch-length, patch_records}
 use Rattle.patch.proofs.patch_counted.Goals as goal

@@ -1,7 +1,6 @@
 -- `seats::run_seats` meets its contract.
 use mathlib.Core.Path.{refl, sym}
 use native.Mathlib.Omega.{arith}
-use borrow.Author.Tests.{not-true}
 use Rattle.classes.specs.Choice.{pick}
 use Rattle.names.specs.Name.{name_of_it}
 use Rattle.views.specs.Views.{cell_at}

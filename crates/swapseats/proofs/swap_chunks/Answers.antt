@@ -1,6 +1,5 @@
 -- `swapseats::swap_chunks` meets its contract.
 use mathlib.Core.Path.{refl, sym, ◌∙◌}
-use borrow.Author.Tests.{not-true, not-false}
 use Rattle.chunks.specs.Chunks.{swapped-done, swapped-stop}
 use Rattle.swapseats.proofs.swap_chunks.Goals as goal
 

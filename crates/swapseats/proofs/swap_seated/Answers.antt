@@ -4,7 +4,6 @@ use mathlib.Core.Path.{◌≡◌, refl, sym, ◌∙◌}
 use native.Mathlib.Omega.{arith}
 use lib.ListN.{length-replicate}
 use borrow.Author.Rules.{rules}
-use borrow.Author.Tests.{not-true, not-false}
 use Rattle.sheetlaws.specs.Sheet.{nth}
 use Rattle.findseat.specs.Laws.{order_there}
 use Rattle.touchseats.specs.Laws.{chosen_order}

@@ -31,15 +31,15 @@ loop-i-smaller c = omega arith
 
 pub loop-i-preserved : goal.loop-i-preserved
 loop-i-preserved c =
-    let e : c.if-i-count.v ≡ get_or (take c.args.count c.args.t3) c.loop-i.i nothing =
-    ⊎_elim (λ x. x.2 ∙ sym (value-here c.args.t3 c.args.count c.loop-i.i x.0.taken))
-    (λ x. x.1 ∙ sym (value-past c.args.t3 c.args.count c.loop-i.i x.0.left)) c.if-i-count.branch in
-    let m = length_values (take c.args.count c.args.t3) c.loop-i.i in
-    let b : c.args.place + 3 * c.loop-i.i ≡ c.args.place + length (values_row (take c.args.count c.args.t3) c.loop-i.i) = omega arith in (
+    let e : c.if-i-count.v ≡ get_or (take c.args.count c.args.list) c.loop-i.i nothing =
+    ⊎_elim (λ x. x.2 ∙ sym (value-here c.args.list c.args.count c.loop-i.i x.0.taken))
+    (λ x. x.1 ∙ sym (value-past c.args.list c.args.count c.loop-i.i x.0.left)) c.if-i-count.branch in
+    let m = length_values (take c.args.count c.args.list) c.loop-i.i in
+    let b : c.args.place + 3 * c.loop-i.i ≡ c.args.place + length (values_row (take c.args.count c.args.list) c.loop-i.i) = omega arith in (
       omega arith,
       (
-        c.put_words.ensures ∙ rw (c.value_words-words.ensures, e, c.loop-i.invariant.1.0, values_turn (take c.args.count c.args.t3) c.loop-i.i)
-            (put-put c.args.table.now (values_row (take c.args.count c.args.t3) c.loop-i.i) (value_words (get_or (take c.args.count c.args.t3) c.loop-i.i nothing)) c.args.place (c.args.place + 3 * c.loop-i.i) b (omega (arith, c.requires.0))),
+        c.put_words.ensures ∙ rw (c.value_words-words.ensures, e, c.loop-i.invariant.1.0, values_turn (take c.args.count c.args.list) c.loop-i.i)
+            (put-put c.args.table.now (values_row (take c.args.count c.args.list) c.loop-i.i) (value_words (get_or (take c.args.count c.args.list) c.loop-i.i nothing)) c.args.place (c.args.place + 3 * c.loop-i.i) b (omega (arith, c.requires.0))),
         c.put_words.auto.0 ∙ c.loop-i.invariant.1.1,
       ),
     )
@@ -51,5 +51,5 @@ shape_of-table c =
 pub returns : goal.returns
 returns c =
     let h : c.loop-i.i ≡ 6 = omega arith in
-    let g : length c.args.t3 ≡ 6 = search rules in
-    (rw h at c.loop-i.invariant.1.0, length-take-le c.args.count c.args.t3 (omega (arith, c.requires.1)))
+    let g : length c.args.list ≡ 6 = search rules in
+    (rw h at c.loop-i.invariant.1.0, length-take-le c.args.count c.args.list (omega (arith, c.requires.1)))

@@ -27,7 +27,7 @@ overflow_sub-result c = rw (opposite c.args.value (omega arith)) (fits c.args.va
 
 pub returns-then-minus : goal.returns-then-minus
 returns-then-minus c =
-    ap Time (to_z-of_z w64 _ (sub-t5 c) ∙ opposite c.args.value (omega arith)) ∙ simp (le-leb c.args.value limit (omega arith), c.if-minus.true)
+    ap Time (to_z-of_z w64 _ (overflow_sub-result c) ∙ opposite c.args.value (omega arith)) ∙ simp (le-leb c.args.value limit (omega arith), c.if-minus.true)
 
 pub returns : goal.returns
 returns c =

@@ -3,7 +3,6 @@ use Prim.Native.Nat.{◌+◌, ◌-◌, min}
 use mathlib.Core.Path.{ap, sym, ◌∙◌}
 use native.Mathlib.Omega.{arith}
 use lib.ListN.{drop}
-use borrow.Author.Tests.{not-true, not-false}
 use Rattle.numbershape.specs.Scans.{min-horner}
 use Rattle.times.specs.Plain.{plain-none, plain-whole, plain_pointless, plain-pointed, point_within}
 use Rattle.numbershape.specs.Steps.{stop}

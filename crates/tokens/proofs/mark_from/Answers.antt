@@ -3,7 +3,7 @@ use native.Mathlib.Nat.{not-suc-le-zero}
 use mathlib.Core.Path.{sym, ◌∙◌}
 use lib.ListN.{get_or}
 use borrow.Author.Rules.{rules}
-use borrow.Author.Tests.{eqb-true, not-false}
+use borrow.Author.Tests.{eqb-true}
 use Rattle.classes.specs.Classes.{class_of}
 use Rattle.scanning.specs.RunLaws.{white_goes}
 use Rattle.tokens.specs.Quick.{white_token, mark_token}

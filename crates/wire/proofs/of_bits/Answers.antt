@@ -21,4 +21,4 @@ overflow_sub-result-else-n-lt9223372036854775808 c = rw (read c.args.n c.if-n-lt
 
 pub returns-else-n-lt9223372036854775808 : goal.returns-else-n-lt9223372036854775808
 returns-else-n-lt9223372036854775808 c =
-    to_z-of_z w64 _ (sub-result-2 c) ∙ read c.args.n c.if-n-lt9223372036854775808.false ∙ ap negsuc (same c.args.n) ∙ sym (high_bits c.args.n c.if-n-lt9223372036854775808.false)
+    to_z-of_z w64 _ (overflow_sub-result-else-n-lt9223372036854775808 c) ∙ read c.args.n c.if-n-lt9223372036854775808.false ∙ ap negsuc (same c.args.n) ∙ sym (high_bits c.args.n c.if-n-lt9223372036854775808.false)

@@ -8,7 +8,7 @@ use lib.Seq.{paste-zero, paste-suc}
 use Rattle.wire.proofs.put_eight.Goals as goal
 
 pub loop-k-init : goal.loop-k-init
-loop-k-init c = (search rules, (paste-zero c.args.bytes.now c.args.place c.args.t3, refl))
+loop-k-init c = (search rules, (paste-zero c.args.bytes.now c.args.place c.args.row, refl))
 
 pub bounds-row-k : goal.bounds-row-k
 bounds-row-k c = omega arith
@@ -27,10 +27,10 @@ loop-k-smaller c = omega arith
 
 pub loop-k-preserved : goal.loop-k-preserved
 loop-k-preserved c =
-    let h : length c.args.t3 ≡ 8 = search rules in (
+    let h : length c.args.row ≡ 8 = search rules in (
       search rules,
       (
-        rw (c.loop-k.invariant.1.0, add-one) (paste-suc c.args.bytes.now c.args.place c.args.t3 c.loop-k.k 0 (omega arith) (omega arith)),
+        rw (c.loop-k.invariant.1.0, add-one) (paste-suc c.args.bytes.now c.args.place c.args.row c.loop-k.k 0 (omega arith) (omega arith)),
         simp
             length-set c.loop-k.invariant.1.1,
       ),
