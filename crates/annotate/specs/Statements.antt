@@ -12,17 +12,17 @@ use Rattle.history.specs.EventLaws.{clash, holds_inj}
 use Rattle.history.specs.Sheet.{Slot, Values, file_events}
 use Rattle.history.specs.Sheet as history
 use Rattle.history.specs.Demands.{demand_2}
-use Rattle.slots.specs.Slots.{recordsOf, values_of}
+use Rattle.slots.specs.Slots.{records_of, values_of}
 use Rattle.meaning.specs.declared.Annotated.{Annotated}
 use Rattle.meaning.specs.Meaning.{said, Course, AnnotateIs}
 
 -- HISTORY HOLDS, demand 2's second half: annotating the sheet s with the text that was read as st gives the values v exactly if no cell gets 12 or 13 and
 -- no entry 14, and in every slot the history over all entries, in file order and from the starting value, ends without 15 or 16, in v
 pub history-holds : (s : Sheet) (text : List ℕ) (st : At) (v : Values)
-    → (history.annotate (recordsOf s) (values_of s) (said text st) ≡ sheet v)
-    ↔ (((e : Event Slot ℕ) → Memᴰ e (file_events (recordsOf s) (said text st)) → e.own ≡ none)
-    × ((t : Slot) → history (holds (values_of s t)) (file_events (recordsOf s) (said text st)) t ≡ holds (v t)))
-history-holds s text st v = demand_2 (recordsOf s) (values_of s) v (said text st)
+    → (history.annotate (records_of s) (values_of s) (said text st) ≡ sheet v)
+    ↔ (((e : Event Slot ℕ) → Memᴰ e (file_events (records_of s) (said text st)) → e.own ≡ none)
+    × ((t : Slot) → history (holds (values_of s t)) (file_events (records_of s) (said text st)) t ≡ holds (v t)))
+history-holds s text st v = demand_2 (records_of s) (values_of s) v (said text st)
 
 -- a slot that an event does not supply keeps its value
 kept : (v : Value) (x : Supply) → supplied x ≡ false → next (holds v) x ≡ holds v
@@ -43,9 +43,9 @@ stays (d ∷ es) t v e = go (supplied (d.gives t)) refl e (stays es t v)
 
 -- OUTSIDE UNCHANGED: a slot that no entry of the text supplies has its starting value
 pub outside_unchanged : (s : Sheet) (text : List ℕ) (st : At) (v : Values) (t : Slot)
-    → history.annotate (recordsOf s) (values_of s) (said text st) ≡ sheet v → supply (file_events (recordsOf s) (said text st)) t ≡ false
+    → history.annotate (records_of s) (values_of s) (said text st) ≡ sheet v → supply (file_events (records_of s) (said text st)) t ≡ false
     → v t ≡ values_of s t
-outside_unchanged s text st v t e q = holds_inj (sym (((history-holds s text st v).0 e).1 t) ∙ stays (file_events (recordsOf s) (said text st)) t (values_of s t) q)
+outside_unchanged s text st v t e q = holds_inj (sym (((history-holds s text st v).0 e).1 t) ∙ stays (file_events (records_of s) (said text st)) t (values_of s t) q)
 
 -- ONE OUTCOME: two outcomes that satisfy the contract, for the same input, are the same
 pub one-outcome : (start : List ℕ) (c : Course) (u u1 u2 t t1 t2 out out1 out2 : List ℕ) (r1 r2 : Annotated) → AnnotateIs start c u u1 t t1 out out1 r1

@@ -23,7 +23,7 @@ use Rattle.history.specs.Events.{Answer, sheet, refused, folded}
 use Rattle.history.specs.Sheet.{Slot, file_events, slots_of}
 use Rattle.history.specs.Sheet as history
 use Rattle.history.specs.SheetLaws.{annotate-by_entries}
-use Rattle.slots.specs.Slots.{recordsOf, values_of, sheet_at}
+use Rattle.slots.specs.Slots.{records_of, values_of, sheet_at}
 use Rattle.slots.specs.Spelled.{start}
 use Rattle.slots.specs.Shapes.{values_in_range}
 use Rattle.applying.specs.Says.{cells_of}
@@ -44,10 +44,10 @@ module _ (b : List ℕ) (bytes : Bytes b) (n m f : ℕ) (good : check_of b ≡ G
 
   -- what the events come to is what annotating means
   means : (cs : List read.Cell) (is : List Item) (a : Answer Slot ℕ)
-      → folded (slots_of (recordsOf (sheet_at b n m f))) (values_of (sheet_at b n m f)) (file_events (recordsOf (sheet_at b n m f)) (cells_of here text slash cs is) ++ []) ≡ a
-      → history.annotate (recordsOf (sheet_at b n m f)) (values_of (sheet_at b n m f)) (cells_of here text slash cs is) ≡ a
+      → folded (slots_of (records_of (sheet_at b n m f))) (values_of (sheet_at b n m f)) (file_events (records_of (sheet_at b n m f)) (cells_of here text slash cs is) ++ []) ≡ a
+      → history.annotate (records_of (sheet_at b n m f)) (values_of (sheet_at b n m f)) (cells_of here text slash cs is) ≡ a
   means cs is a e =
-      sym (annotate-by_entries (recordsOf (sheet_at b n m f)) (values_of (sheet_at b n m f)) (cells_of here text slash cs is)) ∙ rw append-nil at e
+      sym (annotate-by_entries (records_of (sheet_at b n m f)) (values_of (sheet_at b n m f)) (cells_of here text slash cs is)) ∙ rw append-nil at e
 
   done : (out : List ℕ) → CellsRun b text slash n m f cells count entries b out Done → TextRun b text slash n m f cells count entries out Done
   unfolding folded

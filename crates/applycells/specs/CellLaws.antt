@@ -25,7 +25,7 @@ use Rattle.history.specs.EventLaws.{fold_step}
 use Rattle.history.specs.Sheet.{slots_of, Slot, Values, Cell, at, cell_number, cell_event, events, file_events, each}
 use Rattle.applying.specs.Says.{cell_of, cells_of, part_at, name_at}
 use Rattle.applying.specs.Rows.{cell-is}
-use Rattle.applying.specs.Instances.{recordsAt}
+use Rattle.applying.specs.Instances.{records_at}
 use Rattle.applying.specs.Addressed.{cell_absent, cell-found, cell_differs, cell_same, cell-every}
 use Rattle.meaning.specs.declared.Whom.{Whom}
 use Rattle.meaning.specs.declared.Whom.TheVariants.{One, Every, Nobody}
@@ -44,9 +44,9 @@ quiet x now [] = refl
 quiet x now (t ∷ l) = quiet x now l
 
 module _ (b : List ℕ) (bytes : Bytes b) (n m f : ℕ) (good : check_of b ≡ Good n m f) (text : List ℕ) (slash : Bool) where
-  own_judged : (l : List Slot) (now : Values) (c : Cell ℕ) → judge l now (cell_event (recordsAt b n m f) c) ≡ cell_number (recordsAt b n m f) c
+  own_judged : (l : List Slot) (now : Values) (c : Cell ℕ) → judge l now (cell_event (records_at b n m f) c) ≡ cell_number (records_at b n m f) c
   unfolding judge stuck cell_event or_else when
-  own_judged l now c = rw (quiet 15 now l, quiet 16 now l) (go (cell_number (recordsAt b n m f) c))
+  own_judged l now c = rw (quiet 15 now l, quiet 16 now l) (go (cell_number (records_at b n m f) c))
     where
       go : (o : Option ℕ) → or_else o none ≡ o
       go none = refl
@@ -56,9 +56,9 @@ module _ (b : List ℕ) (bytes : Bytes b) (n m f : ℕ) (good : check_of b ≡ G
 
   -- what the search for its instance says of a cell
   abbrev WhomIs : Whom → Cell ℕ → Type 0
-  WhomIs (One p) c = For b n (One p) c × (cell_number (recordsAt b n m f) c ≡ none)
-  WhomIs Every c = For b n Every c × (cell_number (recordsAt b n m f) c ≡ none)
-  WhomIs (Nobody x) c = cell_number (recordsAt b n m f) c ≡ some x
+  WhomIs (One p) c = For b n (One p) c × (cell_number (records_at b n m f) c ≡ none)
+  WhomIs Every c = For b n Every c × (cell_number (records_at b n m f) c ≡ none)
+  WhomIs (Nobody x) c = cell_number (records_at b n m f) c ≡ some x
 
   found_whom : (path : List ℕ) (c : Cell ℕ) → c.part ≡ at path → (o : Found) → find_instance b path n 12 ≡ o → WhomIs (typed_as b c.type o) c
   unfolding typed_as
@@ -84,17 +84,17 @@ module _ (b : List ℕ) (bytes : Bytes b) (n m f : ℕ) (good : check_of b ≡ G
   -- 2. One cell
 
   cell-events : (cell : read.Cell) (is : List Item)
-      → events (recordsAt b n m f) (cell_of here text slash cell is)
-      ≡ cell_event (recordsAt b n m f) (cell_of here text slash cell is) ∷ entry_events b text slash n m f (cell_of here text slash cell is) is
+      → events (records_at b n m f) (cell_of here text slash cell is)
+      ≡ cell_event (records_at b n m f) (cell_of here text slash cell is) ∷ entry_events b text slash n m f (cell_of here text slash cell is) is
   unfolding events cell_of entry_events
   cell-events cell is = refl
 
   -- a keyword that is let pass
-  keyword : (now : Values) (c : Cell ℕ) → cell_number (recordsAt b n m f) c ≡ none → (more : List (Event Slot ℕ))
-      → folded (slots_of (recordsAt b n m f)) now (cell_event (recordsAt b n m f) c ∷ more) ≡ folded (slots_of (recordsAt b n m f)) now more
+  keyword : (now : Values) (c : Cell ℕ) → cell_number (records_at b n m f) c ≡ none → (more : List (Event Slot ℕ))
+      → folded (slots_of (records_at b n m f)) now (cell_event (records_at b n m f) c ∷ more) ≡ folded (slots_of (records_at b n m f)) now more
   unfolding cell_event final step
   keyword now c e more =
-      fold_step (slots_of (recordsAt b n m f)) now now (cell_event (recordsAt b n m f) c) more (own_judged (slots_of (recordsAt b n m f)) now c ∙ e)
+      fold_step (slots_of (records_at b n m f)) now now (cell_event (records_at b n m f) c) more (own_judged (slots_of (records_at b n m f)) now c ∙ e)
 
   -- 12 and 13 at the cell's keyword
   pub cell_refused : (cells : List ℕ) (row : ℕ) (entries : List ℕ) (first : ℕ) (out out' : List ℕ) (x : ℕ)
@@ -104,10 +104,10 @@ module _ (b : List ℕ) (bytes : Bytes b) (n m f : ℕ) (good : check_of b ≡ G
   cell_refused cells row entries first out out' x e y g cell is now r s a k =
       let c = cell_of here text slash cell is in
       let v = cell-is cells row cell r s in
-      let o : cell_number (recordsAt b n m f) c ≡ some x = subst (λ (w : Whom). WhomIs w c) (rw v at e) (whom_is cell is) in
+      let o : cell_number (records_at b n m f) c ≡ some x = subst (λ (w : Whom). WhomIs w c) (rw v at e) (whom_is cell is) in
       rw (cell-events cell is, v)
-      (went-stop b bytes n m f good text slash now [] (entry_events b text slash n m f c is) out out' (cell_event (recordsAt b n m f) c) x
-      (now, k, λ more. refl) (own_judged (slots_of (recordsAt b n m f)) now c ∙ o))
+      (went-stop b bytes n m f good text slash now [] (entry_events b text slash n m f c is) out out' (cell_event (records_at b n m f) c) x
+      (now, k, λ more. refl) (own_judged (slots_of (records_at b n m f)) now c ∙ o))
 
   -- and else its entries
   pub cell_entries : (cells : List ℕ) (row : ℕ) (entries : List ℕ) (first : ℕ) (out out' : List ℕ) (whom : Whom) (a : Annotated)
@@ -122,11 +122,11 @@ module _ (b : List ℕ) (bytes : Bytes b) (n m f : ℕ) (good : check_of b ≡ G
       let w : WhomIs whom c = subst (λ (w : Whom). WhomIs w c) (rw v at e) (whom_is cell is) in
       let u = both whom w h in
       rw (cell-events cell is)
-      (went_on b bytes n m f good text slash now (cell_event (recordsAt b n m f) c ∷ []) (entry_events b text slash n m f c is) out out' a
+      (went_on b bytes n m f good text slash now (cell_event (records_at b n m f) c ∷ []) (entry_events b text slash n m f c is) out out' a
       (now, k, keyword now c u.1) ((rw v at run) y g c is now are refl u.0 k))
     where
       both : (whom : Whom) → WhomIs whom (cell_of here text slash cell is) → ((x : ℕ) → whom ≡ Nobody x → ⊥)
-          → For b n whom (cell_of here text slash cell is) × (cell_number (recordsAt b n m f) (cell_of here text slash cell is) ≡ none)
+          → For b n whom (cell_of here text slash cell is) × (cell_number (records_at b n m f) (cell_of here text slash cell is) ≡ none)
       both (One p) w h = w
       both Every w h = w
       both (Nobody x) w h = absurd (h x refl)
@@ -138,7 +138,7 @@ module _ (b : List ℕ) (bytes : Bytes b) (n m f : ℕ) (good : check_of b ≡ G
     abbrev pub CellsSoFar : ℕ → List ℕ → Type 0
     CellsSoFar k o =
         (cs : List read.Cell) (is : List Item) (now : Values) → CellsAre cells count cs → EntriesAre entries 0 (total cs) is → Kept b n m f out now
-        → Went b n m f now (file_events (recordsAt b n m f) (cells_of here text slash (take k cs) is)) o Done
+        → Went b n m f now (file_events (records_at b n m f) (cells_of here text slash (take k cs) is)) o Done
 
     pub cells-none : CellsSoFar 0 out
     unfolding cells_of file_events each
@@ -146,16 +146,16 @@ module _ (b : List ℕ) (bytes : Bytes b) (n m f : ℕ) (good : check_of b ≡ G
 
     -- the events of the cells before number k, and its own
     abbrev past : List read.Cell → List Item → ℕ → List (Event Slot ℕ)
-    past cs is k = file_events (recordsAt b n m f) (cells_of here text slash (take k cs) is)
+    past cs is k = file_events (records_at b n m f) (cells_of here text slash (take k cs) is)
 
     abbrev this : List read.Cell → List Item → ℕ → List (Event Slot ℕ)
-    this cs is k = events (recordsAt b n m f) (cell_no here text slash cs is k)
+    this cs is k = events (records_at b n m f) (cell_no here text slash cs is k)
 
     -- what the run of cell number k says
     one : (k : ℕ) (o o' : List ℕ) (first : ℕ) (a : Annotated) → k < count → first ≡ entries_before cells k
         → CellRun b text slash n m f cells (7 * k) entries first o o' a
         → (cs : List read.Cell) (is : List Item) (now : Values) → CellsAre cells count cs → EntriesAre entries 0 (total cs) is → Kept b n m f o now
-        → Went b n m f now (events (recordsAt b n m f) (cell_no here text slash cs is k)) o' a
+        → Went b n m f now (events (records_at b n m f) (cell_no here text slash cs is k)) o' a
     one k o o' first a h d run cs is now c e kept =
         let l : k < length cs = rw c.0 h in
         let z : first ≡ before cs k = d ∙ before-is cells count cs c k (omega arith) in
@@ -167,7 +167,7 @@ module _ (b : List ℕ) (bytes : Bytes b) (n m f : ℕ) (good : check_of b ≡ G
     unfolding file_events each
     cells-more k o o' first h d so run cs is now c e kept =
         let w = so cs is now c e kept in
-        rw (cells-next here text slash cs is k (rw c.0 h), file-append (recordsAt b n m f), append-nil)
+        rw (cells-next here text slash cs is k (rw c.0 h), file-append (records_at b n m f), append-nil)
         (went_on b bytes n m f good text slash now (past cs is k) (this cs is k) o o' Done w (one k o o' first Done h d run cs is w.0 c e w.1))
 
     pub cells-stop : (k : ℕ) (o o' : List ℕ) (first x q : ℕ) → k < count → first ≡ entries_before cells k → CellsSoFar k o
@@ -178,7 +178,7 @@ module _ (b : List ℕ) (bytes : Bytes b) (n m f : ℕ) (good : check_of b ≡ G
         let w = so cs is now c e kept in
         let s = cells_at here text slash cs is k (rw c.0 h) in
         let v = went_on b bytes n m f good text slash now (past cs is k) (this cs is k) o o' (Refused x q) w (one k o o' first (Refused x q) h d run cs is w.0 c e w.1) in
-        rw (s.1, file-append (recordsAt b n m f)) (further now (past cs is k) (this cs is k) (file_events (recordsAt b n m f) s.0) o' x q v)
+        rw (s.1, file-append (records_at b n m f)) (further now (past cs is k) (this cs is k) (file_events (records_at b n m f) s.0) o' x q v)
       where
         further : (now : Values) (es fs rest : List (Event Slot ℕ)) (o : List ℕ) (x q : ℕ) → Went b n m f now (es ++ fs) o (Refused x q)
             → Went b n m f now (es ++ (fs ++ rest)) o (Refused x q)

@@ -19,7 +19,7 @@ use Rattle.history.specs.Sheet.{Slot, Values, Cell, entry_event, slots_of}
 use Rattle.applying.specs.Says.{entry_of}
 use Rattle.applying.specs.Judged.{refusal_of, numbered, judged}
 use Rattle.applying.specs.Rows.{EntryIs, head_is, item-expanded}
-use Rattle.applying.specs.Instances.{recordsAt}
+use Rattle.applying.specs.Instances.{records_at}
 use Rattle.applying.specs.Steps.{after, one-judged, one_left, every-judged, every-left}
 use Rattle.meaning.specs.declared.Whom.{Whom}
 use Rattle.meaning.specs.declared.Whom.TheVariants.{One, Every, Nobody}
@@ -38,7 +38,7 @@ module _ (b : List ℕ) (bytes : Bytes b) (n m f : ℕ) (good : check_of b ≡ G
 
   module _ (t : List ℕ) (row : ℕ) (i : Item) (r : EntryIs t row i) (s : SoundItem i) (c : Cell ℕ) (now : Values) where
     entry-judged : (whom : Whom) → For b n whom c → (out : List ℕ) → Kept b n m f out now
-        → refusal_for b text slash n m f t row whom c.type out ≡ refusal_of (recordsAt b n m f) c (entry_of here text slash i) now
+        → refusal_for b text slash n m f t row whom c.type out ≡ refusal_of (records_at b n m f) c (entry_of here text slash i) now
     unfolding refusal_for rows_at
     entry-judged (One p) w out k =
         rw (head_is t row i r s, k.0, w.2) (one-judged b bytes n m f good text slash here i _ (item-expanded here text slash t row i r s) c now k.1
@@ -62,7 +62,7 @@ module _ (b : List ℕ) (bytes : Bytes b) (n m f : ℕ) (good : check_of b ≡ G
   -- 2. What was gone through, and one entry more
 
   abbrev slots : List Slot
-  slots = slots_of (recordsAt b n m f)
+  slots = slots_of (records_at b n m f)
 
   -- no refusal, or one
   none-numbered : (x : ℕ) → x ≡ 0 → numbered x ≡ none
@@ -110,19 +110,19 @@ module _ (b : List ℕ) (bytes : Bytes b) (n m f : ℕ) (good : check_of b ≡ G
     -- entry number k among the events
     events-at : (c : Cell ℕ) (is : List Item) (k : ℕ) → k < length is
         → entry_events b text slash n m f c is ≡ entry_events b text slash n m f c (take k is)
-        ++ (entry_event (recordsAt b n m f) c (entry_of here text slash (get_or is k no_item)) ∷ entry_events b text slash n m f c (drop (suc k) is))
+        ++ (entry_event (records_at b n m f) c (entry_of here text slash (get_or is k no_item)) ∷ entry_events b text slash n m f c (drop (suc k) is))
     unfolding entry_events
     events-at c [] k h = absurd (omega arith)
     events-at c (i ∷ is) zero h = refl
-    events-at c (i ∷ is) (suc k) h = ap (λ l. entry_event (recordsAt b n m f) c (entry_of here text slash i) ∷ l) (events-at c is k (omega arith))
+    events-at c (i ∷ is) (suc k) h = ap (λ l. entry_event (records_at b n m f) c (entry_of here text slash i) ∷ l) (events-at c is k (omega arith))
 
     events-next : (c : Cell ℕ) (is : List Item) (k : ℕ) → k < length is
         → entry_events b text slash n m f c (take (suc k) is) ≡ entry_events b text slash n m f c (take k is)
-        ++ (entry_event (recordsAt b n m f) c (entry_of here text slash (get_or is k no_item)) ∷ [])
+        ++ (entry_event (records_at b n m f) c (entry_of here text slash (get_or is k no_item)) ∷ [])
     unfolding entry_events
     events-next c [] k h = absurd (omega arith)
     events-next c (i ∷ is) zero h = refl
-    events-next c (i ∷ is) (suc k) h = ap (λ l. entry_event (recordsAt b n m f) c (entry_of here text slash i) ∷ l) (events-next c is k (omega arith))
+    events-next c (i ∷ is) (suc k) h = ap (λ l. entry_event (records_at b n m f) c (entry_of here text slash i) ∷ l) (events-next c is k (omega arith))
 
     pub entries_more : (k : ℕ) (o o' : List ℕ) → k < count → EntriesSoFar k o
         → refusal_for b text slash n m f t (28 * (first + k)) whom type o ≡ 0
@@ -133,13 +133,13 @@ module _ (b : List ℕ) (bytes : Bytes b) (n m f : ℕ) (good : check_of b ≡ G
         let r = a.1 k h in
         let s = each_at SoundItem is no_item a.2 k l in
         let before = so c is now a ty w kept in
-        let x : refusal_of (recordsAt b n m f) c (entry_of here text slash i) before.0 ≡ 0
+        let x : refusal_of (records_at b n m f) c (entry_of here text slash i) before.0 ≡ 0
         = sym (entry-judged t (28 * (first + k)) i r s c before.0 whom w o before.1) ∙ rw ty z in
         let left : Kept b n m f o' (after b bytes n m f good c (entry_of here text slash i) before.0)
         = rw (e, ← ty) (entry-left t (28 * (first + k)) i r s c before.0 whom w o before.1 (rw ty z)) in
         rw (events-next c is k l)
-        (went-more now (entry_events b text slash n m f c (take k is)) o o' (entry_event (recordsAt b n m f) c (entry_of here text slash i)) before
-        (judged (recordsAt b n m f) before.0 c (entry_of here text slash i) ∙ none-numbered _ x) left)
+        (went-more now (entry_events b text slash n m f c (take k is)) o o' (entry_event (records_at b n m f) c (entry_of here text slash i)) before
+        (judged (records_at b n m f) before.0 c (entry_of here text slash i) ∙ none-numbered _ x) left)
 
     -- the place of entry number k's keyword
     place_at : (is : List Item) → EntriesAre t first count is → (k : ℕ) → k < count → get_or t (28 * (first + k) + 2) 0 ≡ (get_or is k no_item).head.place
@@ -155,12 +155,12 @@ module _ (b : List ℕ) (bytes : Bytes b) (n m f : ℕ) (good : check_of b ≡ G
         let i = get_or is k no_item in
         let s = each_at SoundItem is no_item a.2 k l in
         let before = so c is now a ty w kept in
-        let u : refusal_of (recordsAt b n m f) c (entry_of here text slash i) before.0 ≡ x
+        let u : refusal_of (records_at b n m f) c (entry_of here text slash i) before.0 ≡ x
         = sym (entry-judged t (28 * (first + k)) i (a.1 k h) s c before.0 whom w o before.1) ∙ rw ty (sym z) in
         rw (events-at c is k l, place_at is a k h)
         (went-stop now (entry_events b text slash n m f c (take k is)) (entry_events b text slash n m f c (drop (suc k) is)) o o'
-        (entry_event (recordsAt b n m f) c (entry_of here text slash i)) x before
-        (judged (recordsAt b n m f) before.0 c (entry_of here text slash i) ∙ rw u (some-numbered x q)))
+        (entry_event (records_at b n m f) c (entry_of here text slash i)) x before
+        (judged (records_at b n m f) before.0 c (entry_of here text slash i) ∙ rw u (some-numbered x q)))
 
     pub entries_end : (o : List ℕ) → EntriesSoFar count o → EntriesRun b text slash n m f t first count whom type out o Done
     entries_end o so y g c is now a ty w kept = rw (take_all count is (omega (arith, a.0))) at (so c is now a ty w kept)

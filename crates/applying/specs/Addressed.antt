@@ -20,7 +20,7 @@ use Rattle.history.specs.Sheet.{Instance, Values, Entry, at, every, Cell, part_i
 use Rattle.slots.specs.Found.{instance-at, instances_length, instance_once}
 use Rattle.applying.specs.Judged.{any_and, arc_is, fails_at, refusal_at, refusal_of}
 use Rattle.applying.specs.Below.{not_so, below_cong, below_none, below-some, any_at}
-use Rattle.applying.specs.Instances.{recordsAt}
+use Rattle.applying.specs.Instances.{records_at}
 
 -- where instance number k stands, and what stands there
 abbrev pub place_of : List ℕ → ℕ → ℕ
@@ -31,9 +31,9 @@ instance_of b k = record { path = path_at b (place_of b k); type = type_at b (pl
 
 module _ (b : List ℕ) (bytes : Bytes b) (n m f : ℕ) (good : check_of b ≡ Good n m f) where
   -- some instance passes the test
-  any_instance : (g : Instance → Bool) → any_of g (recordsAt b n m f).instances ≡ any_of (λ k. g (instance_of b k)) (below n)
+  any_instance : (g : Instance → Bool) → any_of g (records_at b n m f).instances ≡ any_of (λ k. g (instance_of b k)) (below n)
   any_instance g =
-      any_at g (instance_of b) (recordsAt b n m f).instances (λ j h. instance-at b bytes n m f good j (rw (instances_length b bytes n m f good) at h))
+      any_at g (instance_of b) (records_at b n m f).instances (λ j h. instance-at b bytes n m f good j (rw (instances_length b bytes n m f good) at h))
       ∙ rw (instances_length b bytes n m f good)
 
   module _ {Word : Type 0} (c : Cell Word) where
@@ -49,7 +49,7 @@ module _ (b : List ℕ) (bytes : Bytes b) (n m f : ℕ) (good : check_of b ≡ G
     other_path path k x = not_so _ (λ e. x ((name_exactly _ _).0 e))
 
     -- 12, 'no such instance'
-    pub cell_absent : (path : List ℕ) → c.part ≡ at path → find_instance b path n 12 ≡ Nothing → cell_number (recordsAt b n m f) c ≡ some 12
+    pub cell_absent : (path : List ℕ) → c.part ≡ at path → find_instance b path n 12 ≡ Nothing → cell_number (records_at b n m f) c ≡ some 12
     unfolding cell_number unapplied
     cell_absent path e g =
         rw (
@@ -67,14 +67,14 @@ module _ (b : List ℕ) (bytes : Bytes b) (n m f : ℕ) (good : check_of b ≡ G
 
     -- 13, 'type differs'
     pub cell_differs : (path : List ℕ) (q : ℕ) → c.part ≡ at path → find_instance b path n 12 ≡ At q → same_text (type_at b q) c.type ≡ false
-        → cell_number (recordsAt b n m f) c ≡ some 13
+        → cell_number (records_at b n m f) c ≡ some 13
     unfolding cell_number unapplied
     cell_differs path q e g d =
         let w = cell-found path q g in
         by w.0 w.1 (rw w.2 at w.3) (rw w.2 at d)
       where
         by : (k : ℕ) → k < n → path_at b (place_of b k) ≡ path → same_text (type_at b (place_of b k)) c.type ≡ false
-            → pick (any_of (applies c) (recordsAt b n m f).instances) none (unapplied (recordsAt b n m f).instances c.part) ≡ some 13
+            → pick (any_of (applies c) (records_at b n m f).instances) none (unapplied (records_at b n m f).instances c.part) ≡ some 13
         by k h x y =
             rw (
               any_instance (applies c),
@@ -91,7 +91,7 @@ module _ (b : List ℕ) (bytes : Bytes b) (n m f : ℕ) (good : check_of b ≡ G
 
     -- its type is the cell's: no refusal
     pub cell_same : (path : List ℕ) (q : ℕ) → c.part ≡ at path → find_instance b path n 12 ≡ At q → same_text (type_at b q) c.type ≡ true
-        → cell_number (recordsAt b n m f) c ≡ none
+        → cell_number (records_at b n m f) c ≡ none
     unfolding cell_number
     cell_same path q e g d =
         let w = cell-found path q g in
@@ -101,9 +101,9 @@ module _ (b : List ℕ) (bytes : Bytes b) (n m f : ℕ) (good : check_of b ≡ G
         rw (any_instance (applies c), below-some (λ l. applies c (instance_of b l)) n k w.1 (rw (part-at path k e, x, y)))
 
     -- '`*` means every instance of that type; with none the cell does nothing'
-    pub cell-every : c.part ≡ every → cell_number (recordsAt b n m f) c ≡ none
+    pub cell-every : c.part ≡ every → cell_number (records_at b n m f) c ≡ none
     unfolding cell_number unapplied
-    cell-every e = either (any_of (applies c) (recordsAt b n m f).instances) (unapplied (recordsAt b n m f).instances c.part) (rw e)
+    cell-every e = either (any_of (applies c) (records_at b n m f).instances) (unapplied (records_at b n m f).instances c.part) (rw e)
       where
         either : (t : Bool) (o : Option ℕ) → o ≡ none → pick t none o ≡ none
         either true o z = refl
@@ -112,7 +112,7 @@ module _ (b : List ℕ) (bytes : Bytes b) (n m f : ℕ) (good : check_of b ≡ G
     -- A cell with the path of instance number k and its type applies to that one only.
 
     pub one_of : (k : ℕ) → k < n → c.part ≡ at (path_at b (place_of b k)) → same_text (type_at b (place_of b k)) c.type ≡ true
-        → (F : List ℕ → Bool) → any_of (λ (i : Instance). and (applies c i) (F i.path)) (recordsAt b n m f).instances ≡ F (path_at b (place_of b k))
+        → (F : List ℕ → Bool) → any_of (λ (i : Instance). and (applies c i) (F i.path)) (records_at b n m f).instances ≡ F (path_at b (place_of b k))
     one_of k h e d F =
         let x : applies c (instance_of b k) ≡ true = rw (part-at (path_at b (place_of b k)) k e, same_self (path_at b (place_of b k)), d) in
         any_instance (λ (i : Instance). and (applies c i) (F i.path))
@@ -128,21 +128,21 @@ module _ (b : List ℕ) (bytes : Bytes b) (n m f : ℕ) (good : check_of b ≡ G
 
     -- so its entry is refused as in that one
     pub one-refusal : (k : ℕ) → k < n → c.part ≡ at (path_at b (place_of b k)) → same_text (type_at b (place_of b k)) c.type ≡ true
-        → (e : Entry Word) (now : Values) → refusal_of (recordsAt b n m f) c e now ≡ refusal_at (recordsAt b n m f) (path_at b (place_of b k)) e now
+        → (e : Entry Word) (now : Values) → refusal_of (records_at b n m f) c e now ≡ refusal_at (records_at b n m f) (path_at b (place_of b k)) e now
     unfolding refusal_of refusal_at lacks
     one-refusal k h p d e now =
         rw (
-          one_of k h p d (λ x. not (any_of (matches x e) (recordsAt b n m f).arcs)),
-          one_of k h p d (λ x. fails_at (recordsAt b n m f) x e 15 now),
-          one_of k h p d (λ x. fails_at (recordsAt b n m f) x e 16 now),
+          one_of k h p d (λ x. not (any_of (matches x e) (records_at b n m f).arcs)),
+          one_of k h p d (λ x. fails_at (records_at b n m f) x e 15 now),
+          one_of k h p d (λ x. fails_at (records_at b n m f) x e 16 now),
         )
 
     -- and means the arcs that it means there
     pub one_applied : (k : ℕ) → k < n → c.part ≡ at (path_at b (place_of b k)) → same_text (type_at b (place_of b k)) c.type ≡ true
         → (e : Entry Word) (j : ℕ)
-        → any_of (λ (i : Instance). and (applies c i) (arc_is (recordsAt b n m f) (matches i.path e) j)) (recordsAt b n m f).instances
-        ≡ arc_is (recordsAt b n m f) (matches (path_at b (place_of b k)) e) j
-    one_applied k h p d e j = one_of k h p d (λ x. arc_is (recordsAt b n m f) (matches x e) j)
+        → any_of (λ (i : Instance). and (applies c i) (arc_is (records_at b n m f) (matches i.path e) j)) (records_at b n m f).instances
+        ≡ arc_is (records_at b n m f) (matches (path_at b (place_of b k)) e) j
+    one_applied k h p d e j = one_of k h p d (λ x. arc_is (records_at b n m f) (matches x e) j)
 
     -- `*`: it applies to the instances of its type
     part-every : (k : ℕ) → c.part ≡ every → applies c (instance_of b k) ≡ same_text (type_at b (place_of b k)) c.type
@@ -150,7 +150,7 @@ module _ (b : List ℕ) (bytes : Bytes b) (n m f : ℕ) (good : check_of b ≡ G
     part-every k e = rw e
 
     pub every_of : c.part ≡ every → (F : List ℕ → Bool)
-        → any_of (λ (i : Instance). and (applies c i) (F i.path)) (recordsAt b n m f).instances
+        → any_of (λ (i : Instance). and (applies c i) (F i.path)) (records_at b n m f).instances
         ≡ any_of (λ k. and (same_text (type_at b (place_of b k)) c.type) (F (path_at b (place_of b k)))) (below n)
     every_of e F = any_instance (λ (i : Instance). and (applies c i) (F i.path))
         ∙ below_cong (λ k. and (applies c (instance_of b k)) (F (path_at b (place_of b k))))

@@ -26,7 +26,7 @@ use Rattle.applying.specs.Says.{name_at, entry_of}
 use Rattle.applying.specs.Judged.{any_below, supply, arc_fails, changed_at, arc_is, fails_at, refusal_at, refusal_of}
 use Rattle.applying.specs.Bytes.{least_of, written_of, refusal_in, written_in, refusal_every, written_every}
 use Rattle.applying.specs.Below.{not_so, and_none, or-none, below_cong, below_none, least_first, lesser-none}
-use Rattle.applying.specs.Instances.{recordsAt, Fine, ArcLaws, arc-is, arc-past, in_refusal, in_written}
+use Rattle.applying.specs.Instances.{records_at, Fine, ArcLaws, arc-is, arc-past, in_refusal, in_written}
 use Rattle.applying.specs.Addressed.{place_of, every_of}
 
 -- An entry means an arc through one instance only.
@@ -95,7 +95,7 @@ module _ (b : List ℕ) (bytes : Bytes b) (n m f : ℕ) (good : check_of b ≡ G
 
   -- the entry means arc j in instance number k
   abbrev hits : ℕ → ℕ → Bool
-  hits k j = arc_is (recordsAt b n m f) (matches (path_at b (place_of b k)) e) j
+  hits k j = arc_is (records_at b n m f) (matches (path_at b (place_of b k)) e) j
 
   once : (k l j : ℕ) → k < n → l < n → hits k j ≡ true → hits l j ≡ true → k ≡ l
   once k l j h g x y = by (ltb j m) refl
@@ -112,17 +112,17 @@ module _ (b : List ℕ) (bytes : Bytes b) (n m f : ℕ) (good : check_of b ≡ G
   -- what is refused in all instances of the cell's type is what the history refuses
   pub every-refusal : (c : Cell Word) → c.part ≡ every → (now : Values) → Fine now
       → refusal_every b text slash n m f i.head rows (bytes_of now) c.type
-      ≡ refusal_of (recordsAt b n m f) c e now
+      ≡ refusal_of (records_at b n m f) c e now
   unfolding refusal_every refusal_of refusal_at lacks
   every-refusal c p now fine =
-      least_first (of_type c.type) (λ k. not (any_of (matches (path_at b (place_of b k)) e) (recordsAt b n m f).arcs))
-      (λ k. fails_at (recordsAt b n m f) (path_at b (place_of b k)) e 15 now) (λ k. fails_at (recordsAt b n m f) (path_at b (place_of b k)) e 16 now)
+      least_first (of_type c.type) (λ k. not (any_of (matches (path_at b (place_of b k)) e) (records_at b n m f).arcs))
+      (λ k. fails_at (records_at b n m f) (path_at b (place_of b k)) e 15 now) (λ k. fails_at (records_at b n m f) (path_at b (place_of b k)) e 16 now)
       (refuses now) n
       (λ k h. in_refusal b bytes n m f good text slash word i rows laws (place_of b k) now fine)
       ∙ rw (
-        every_of b bytes n m f good c p (λ x. not (any_of (matches x e) (recordsAt b n m f).arcs)),
-        every_of b bytes n m f good c p (λ x. fails_at (recordsAt b n m f) x e 15 now),
-        every_of b bytes n m f good c p (λ x. fails_at (recordsAt b n m f) x e 16 now),
+        every_of b bytes n m f good c p (λ x. not (any_of (matches x e) (records_at b n m f).arcs)),
+        every_of b bytes n m f good c p (λ x. fails_at (records_at b n m f) x e 15 now),
+        every_of b bytes n m f good c p (λ x. fails_at (records_at b n m f) x e 16 now),
       )
 
   -- the arcs that it means in the instances of this type among the first k
@@ -140,15 +140,15 @@ module _ (b : List ℕ) (bytes : Bytes b) (n m f : ℕ) (good : check_of b ≡ G
 
   -- so what was changed there refuses nothing here
   kept : (type : List ℕ) (k : ℕ) → k < n → (now : Values)
-      → refusal_at (recordsAt b n m f) (path_at b (place_of b k)) e (changed_at e (upto type k) now)
-      ≡ refusal_at (recordsAt b n m f) (path_at b (place_of b k)) e now
+      → refusal_at (records_at b n m f) (path_at b (place_of b k)) e (changed_at e (upto type k) now)
+      ≡ refusal_at (records_at b n m f) (path_at b (place_of b k)) e now
   unfolding refusal_at fails_at
   kept type k h now =
       rw (
         below_cong (λ j. and (hits k j) (arc_fails e 15 (changed_at e (upto type k) now) j)) (λ j. and (hits k j) (arc_fails e 15 now j))
-            (length (recordsAt b n m f).arcs) (λ j r. by 15 j (hits k j) refl),
+            (length (records_at b n m f).arcs) (λ j r. by 15 j (hits k j) refl),
         below_cong (λ j. and (hits k j) (arc_fails e 16 (changed_at e (upto type k) now) j)) (λ j. and (hits k j) (arc_fails e 16 now j))
-            (length (recordsAt b n m f).arcs) (λ j r. by 16 j (hits k j) refl),
+            (length (records_at b n m f).arcs) (λ j r. by 16 j (hits k j) refl),
       )
     where
       by : (x j : ℕ) (t : Bool) → hits k j ≡ t → and t (arc_fails e x (changed_at e (upto type k) now) j)
@@ -211,14 +211,14 @@ module _ (b : List ℕ) (bytes : Bytes b) (n m f : ℕ) (good : check_of b ≡ G
       → refusal_every b text slash n m f i.head rows (bytes_of now) c.type ≡ 0
       → (written_every b text slash n m f i.head rows (bytes_of now) c.type
       ≡ bytes_of (changed_at e
-      (λ j. any_of (λ (x : Instance). and (applies c x) (arc_is (recordsAt b n m f) (matches x.path e) j))
-      (recordsAt b n m f).instances) now))
+      (λ j. any_of (λ (x : Instance). and (applies c x) (arc_is (records_at b n m f) (matches x.path e) j))
+      (records_at b n m f).instances) now))
       × Fine (changed_at e
-      (λ j. any_of (λ (x : Instance). and (applies c x) (arc_is (recordsAt b n m f) (matches x.path e) j))
-      (recordsAt b n m f).instances) now)
+      (λ j. any_of (λ (x : Instance). and (applies c x) (arc_is (records_at b n m f) (matches x.path e) j))
+      (records_at b n m f).instances) now)
   unfolding refusal_every written_every
   every-written c p now fine z =
-      let same : (λ j. any_of (λ (x : Instance). and (applies c x) (arc_is (recordsAt b n m f) (matches x.path e) j)) (recordsAt b n m f).instances)
+      let same : (λ j. any_of (λ (x : Instance). and (applies c x) (arc_is (records_at b n m f) (matches x.path e) j)) (records_at b n m f).instances)
       ≡ upto c.type n
-      = fun_ext (λ j. every_of b bytes n m f good c p (λ x. arc_is (recordsAt b n m f) (matches x e) j)) in
+      = fun_ext (λ j. every_of b bytes n m f good c p (λ x. arc_is (records_at b n m f) (matches x e) j)) in
       rw same (walk c.type now fine n (omega arith) z)

@@ -23,7 +23,7 @@ use Rattle.history.specs.Ranges.{InRange}
 use Rattle.history.specs.Events.{any_of}
 use Rattle.history.specs.Sheet.{Key, Records, Slot, Values, Entry, end_name, ends_at, matches, below}
 use Rattle.history.specs.Addressing.{matches-key}
-use Rattle.slots.specs.Slots.{as_key, recordsOf, spelled, sheet_at}
+use Rattle.slots.specs.Slots.{as_key, records_of, spelled, sheet_at}
 use Rattle.slots.specs.Found.{arc-at, arcs_length, arc_once}
 use Rattle.amounts.specs.Amounts.{arc_refusal, arc_written}
 use Rattle.amounts.specs.Laws.{first_of}
@@ -33,8 +33,8 @@ use Rattle.applying.specs.Bytes.{least_of, written_of, some_of, device_hit, arc_
 use Rattle.applying.specs.Below.{bool_same, not_so, and-all, and_none, eqb_self, below_cong, below_none, below-some, below_one, any_at, past, some_any, first-none}
 
 -- the records of a sheet that was checked
-abbrev pub recordsAt : List ℕ → ℕ → ℕ → ℕ → Records
-recordsAt b n m f = recordsOf (sheet_at b n m f)
+abbrev pub records_at : List ℕ → ℕ → ℕ → ℕ → Records
+records_at b n m f = records_of (sheet_at b n m f)
 
 -- values that a sheet may hold
 abbrev pub Fine : Values → Type 0
@@ -119,22 +119,22 @@ module _ (text : List ℕ) (slash : Bool) {Word : Type 0} (word : ℕ → Word) 
 
 module _ (b : List ℕ) (bytes : Bytes b) (n m f : ℕ) (good : check_of b ≡ Good n m f) where
   -- arc number j passes the test as its key does
-  pub arc-is : (g : Key → Bool) (j : ℕ) → j < m → arc_is (recordsAt b n m f) g j ≡ g (as_key (key_at b (place b j f)))
+  pub arc-is : (g : Key → Bool) (j : ℕ) → j < m → arc_is (records_at b n m f) g j ≡ g (as_key (key_at b (place b j f)))
   unfolding arc_is key_is
   arc-is g j h = rw (arc-at b bytes n m f good j h)
 
   -- behind the last there is none
-  pub arc-past : (g : Key → Bool) (j : ℕ) → m ≤ j → arc_is (recordsAt b n m f) g j ≡ false
+  pub arc-past : (g : Key → Bool) (j : ℕ) → m ≤ j → arc_is (records_at b n m f) g j ≡ false
   unfolding arc_is key_is
-  arc-past g j h = rw (past (recordsAt b n m f).arcs j (rw (arcs_length b bytes n m f good) h))
+  arc-past g j h = rw (past (records_at b n m f).arcs j (rw (arcs_length b bytes n m f good) h))
 
   -- some arc passes the test
-  pub any_arc : (g : Key → Bool) → any_of g (recordsAt b n m f).arcs ≡ any_of (arc_is (recordsAt b n m f) g) (below m)
+  pub any_arc : (g : Key → Bool) → any_of g (records_at b n m f).arcs ≡ any_of (arc_is (records_at b n m f) g) (below m)
   any_arc g =
-      any_at g (λ j. as_key (key_at b (place b j f))) (recordsAt b n m f).arcs
+      any_at g (λ j. as_key (key_at b (place b j f))) (records_at b n m f).arcs
       (λ j h. arc-at b bytes n m f good j (rw (arcs_length b bytes n m f good) at h))
       ∙ rw (arcs_length b bytes n m f good)
-      (below_cong (λ j. g (as_key (key_at b (place b j f)))) (arc_is (recordsAt b n m f) g) m (λ j h. sym (arc-is g j h)))
+      (below_cong (λ j. g (as_key (key_at b (place b j f)))) (arc_is (records_at b n m f) g) m (λ j h. sym (arc-is g j h)))
 
 module _ (b : List ℕ) (bytes : Bytes b) (n m f : ℕ) (good : check_of b ≡ Good n m f) (text : List ℕ) (slash : Bool) {Word : Type 0} (word : ℕ → Word)
     (i : Item) (rows : List (List ℕ)) where
@@ -154,7 +154,7 @@ module _ (b : List ℕ) (bytes : Bytes b) (n m f : ℕ) (good : check_of b ≡ G
 
   -- the entry, applied to the instance at p, means arc number j
   abbrev pub means : ℕ → ℕ → Bool
-  means p = arc_is (recordsAt b n m f) (matches (path_at b p) e)
+  means p = arc_is (records_at b n m f) (matches (path_at b p) e)
 
   -- DEVICE: the arcs that the program hits
   pub hit-is : (p j : ℕ) → j < m → eqb i.head.kind 4 ≡ true → hits p j ≡ means p j
@@ -196,7 +196,7 @@ module _ (b : List ℕ) (bytes : Bytes b) (n m f : ℕ) (good : check_of b ≡ G
   module _ (laws : ArcLaws b n m f (entry_of word text slash i) rows (eqb i.head.group 73)) where
     -- the refusal in an instance, by the arcs that are meant there
     refusal-by : (p : ℕ) (now : Values) (hit : ℕ → Bool) → ((j : ℕ) → j < m → means p j ≡ hit j)
-        → refusal_at (recordsAt b n m f) (path_at b p) e now
+        → refusal_at (records_at b n m f) (path_at b p) e now
         ≡ first_of (not (any_of hit (below m))) (any_of (λ j. and (hit j) (arc_fails e 15 now j)) (below m))
         (any_of (λ j. and (hit j) (arc_fails e 16 now j)) (below m))
     unfolding refusal_at fails_at
@@ -212,13 +212,13 @@ module _ (b : List ℕ) (bytes : Bytes b) (n m f : ℕ) (good : check_of b ≡ G
     -- what the program refuses in an instance is what the history refuses there
     pub in_refusal : (p : ℕ) (now : Values) → Fine now
         → refusal_in b text slash n m f i.head rows (bytes_of now) p
-        ≡ refusal_at (recordsAt b n m f) (path_at b p) e now
+        ≡ refusal_at (records_at b n m f) (path_at b p) e now
     unfolding refusal_in device_refusal found_refusal first_of
     in_refusal p now fine = go (eqb i.head.kind 4) refl
       where
         other : (x : Found) → found p ≡ x → eqb i.head.kind 4 ≡ false
             → found_refusal b text slash n m f i.head rows (bytes_of now) x
-            ≡ refusal_at (recordsAt b n m f) (path_at b p) e now
+            ≡ refusal_at (records_at b n m f) (path_at b p) e now
         other (At q) a d =
             let w = found-is p q d a in
             let j = w.0 in
@@ -235,7 +235,7 @@ module _ (b : List ℕ) (bytes : Bytes b) (n m f : ℕ) (good : check_of b ≡ G
         go : (t : Bool) → eqb i.head.kind 4 ≡ t
             → pick t (device_refusal b text slash n m f i.head rows (bytes_of now) p)
             (found_refusal b text slash n m f i.head rows (bytes_of now) (found p))
-            ≡ refusal_at (recordsAt b n m f) (path_at b p) e now
+            ≡ refusal_at (records_at b n m f) (path_at b p) e now
         go true d =
             rw (some_any (hits p) m, laws.hits-refusal now fine (hits p) m (omega arith), refusal-by p now (hits p) (λ j h. sym (hit-is p j h d)))
             (first-none (any_of (hits p) (below m)) (any_of (λ j. and (hits p j) (arc_fails e 15 now j)) (below m))

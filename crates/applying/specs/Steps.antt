@@ -19,7 +19,7 @@ use Rattle.applying.specs.Judged.{refusal_of, changed_at, arc_is, applied}
 use Rattle.applying.specs.Bytes.{refusal_in, applied_in, refusal_every, applied_every}
 use Rattle.applying.specs.Arcs.{Expanded}
 use Rattle.applying.specs.Arcs as arcs
-use Rattle.applying.specs.Instances.{Fine, ArcLaws, recordsAt, in_refusal, in_written}
+use Rattle.applying.specs.Instances.{Fine, ArcLaws, records_at, in_refusal, in_written}
 use Rattle.applying.specs.Addressed.{place_of, one-refusal, one_applied}
 use Rattle.applying.specs.Every.{every-refusal, every-written}
 
@@ -43,14 +43,14 @@ module _ (b : List ℕ) (bytes : Bytes b) (n m f : ℕ) (good : check_of b ≡ G
 
   -- what the entry leaves in each slot
   abbrev pub after : Cell Word → Entry Word → Values → Values
-  after c e now t = final (step (now t) ((entry_event (recordsAt b n m f) c e).gives t))
+  after c e now t = final (step (now t) ((entry_event (records_at b n m f) c e).gives t))
 
   module _ (text : List ℕ) (slash : Bool) (word : ℕ → Word) (i : Item) (rows : List (List ℕ))
       (x : Expanded (entry_of word text slash i) rows (eqb i.head.group 73)) (c : Cell Word) (now : Values) (fine : Fine now) where
     -- in the instance that the cell names
     module _ (k : ℕ) (h : k < n) (p : c.part ≡ at (path_at b (place_of b k))) (d : same_text (type_at b (place_of b k)) c.type ≡ true) where
       pub one-judged : refusal_in b text slash n m f i.head rows (spelled (sheet_at b n m f) now) (place_of b k)
-          ≡ refusal_of (recordsAt b n m f) c (entry_of word text slash i) now
+          ≡ refusal_of (records_at b n m f) c (entry_of word text slash i) now
       one-judged =
           in_refusal b bytes n m f good text slash word i rows (arc_laws (entry_of word text slash i) rows _ x) (place_of b k) now fine
           ∙ sym (one-refusal b bytes n m f good c k h p d (entry_of word text slash i) now)
@@ -60,17 +60,17 @@ module _ (b : List ℕ) (bytes : Bytes b) (n m f : ℕ) (good : check_of b ≡ G
           ≡ spelled (sheet_at b n m f) (after c (entry_of word text slash i) now)) × Fine (after c (entry_of word text slash i) now)
       unfolding applied_in changed_at
       one_left z =
-          rw z (moved b bytes n m f good _ _ _ (λ t. sym (applied (recordsAt b n m f) now c (entry_of word text slash i) t ∙ same t))
+          rw z (moved b bytes n m f good _ _ _ (λ t. sym (applied (records_at b n m f) now c (entry_of word text slash i) t ∙ same t))
           (in_written b bytes n m f good text slash word i rows (arc_laws (entry_of word text slash i) rows _ x) (place_of b k) now fine z))
         where
           same : (t : Slot) → changed_at (entry_of word text slash i) (λ (j : ℕ). any_of (λ (y : Instance). and (applies c y)
-              (arc_is (recordsAt b n m f) (matches y.path (entry_of word text slash i)) j)) (recordsAt b n m f).instances) now t
-              ≡ changed_at (entry_of word text slash i) (arc_is (recordsAt b n m f) (matches (path_at b (place_of b k)) (entry_of word text slash i))) now t
+              (arc_is (records_at b n m f) (matches y.path (entry_of word text slash i)) j)) (records_at b n m f).instances) now t
+              ≡ changed_at (entry_of word text slash i) (arc_is (records_at b n m f) (matches (path_at b (place_of b k)) (entry_of word text slash i))) now t
           same t = rw (one_applied b bytes n m f good c k h p d (entry_of word text slash i) t.arc)
 
     -- in every instance of the cell's type
     pub every-judged : c.part ≡ every → refusal_every b text slash n m f i.head rows (spelled (sheet_at b n m f) now) c.type
-        ≡ refusal_of (recordsAt b n m f) c (entry_of word text slash i) now
+        ≡ refusal_of (records_at b n m f) c (entry_of word text slash i) now
     every-judged p = every-refusal b bytes n m f good text slash word i rows (arc_laws (entry_of word text slash i) rows _ x) c p now fine
 
     pub every-left : c.part ≡ every → refusal_every b text slash n m f i.head rows (spelled (sheet_at b n m f) now) c.type ≡ 0
@@ -78,5 +78,5 @@ module _ (b : List ℕ) (bytes : Bytes b) (n m f : ℕ) (good : check_of b ≡ G
         ≡ spelled (sheet_at b n m f) (after c (entry_of word text slash i) now)) × Fine (after c (entry_of word text slash i) now)
     unfolding applied_every
     every-left p z =
-        rw z (moved b bytes n m f good _ _ _ (λ t. sym (applied (recordsAt b n m f) now c (entry_of word text slash i) t))
+        rw z (moved b bytes n m f good _ _ _ (λ t. sym (applied (records_at b n m f) now c (entry_of word text slash i) t))
         (every-written b bytes n m f good text slash word i rows (arc_laws (entry_of word text slash i) rows _ x) c p now fine z))

@@ -29,7 +29,7 @@ use Rattle.history.specs.Sheet as part
 use Rattle.history.specs.Sheet.{Slot, Values, Cell, arc_slots, cell_event, events, file_events, each}
 use Rattle.applying.specs.Says.{cell_of, cells_of, part_at, name_at}
 use Rattle.applying.specs.Rows.{cell-is}
-use Rattle.applying.specs.Instances.{recordsAt}
+use Rattle.applying.specs.Instances.{records_at}
 use Rattle.applying.specs.Addressed.{cell_absent, cell-found, cell_differs}
 use Rattle.meaning.specs.declared.Whom.{Whom}
 use Rattle.meaning.specs.declared.Whom.TheVariants.{One, Every, Nobody}
@@ -97,24 +97,24 @@ module _ (j : ℕ) (touched : Slot → Bool) where
 module _ (b text : List ℕ) (slash : Bool) (n m f : ℕ) (side : Bool) where
   -- its keyword, then its entries
   pub cell-events : (cell : read.Cell) (is : List Item)
-      → events (recordsAt b n m f) (cell_of (at side) text slash cell is)
-      ≡ cell_event (recordsAt b n m f) (cell_of (at side) text slash cell is) ∷ entries_of b text slash n m f side (cell_of (at side) text slash cell is) is
+      → events (records_at b n m f) (cell_of (at side) text slash cell is)
+      ≡ cell_event (records_at b n m f) (cell_of (at side) text slash cell is) ∷ entries_of b text slash n m f side (cell_of (at side) text slash cell is) is
   unfolding events cell_of
   cell-events cell is = refl
 
   -- as many
-  pub cell-length : (cell : read.Cell) (is : List Item) → length (events (recordsAt b n m f) (cell_of (at side) text slash cell is)) ≡ 1 + length is
+  pub cell-length : (cell : read.Cell) (is : List Item) → length (events (records_at b n m f) (cell_of (at side) text slash cell is)) ≡ 1 + length is
   cell-length cell is =
       let e = entries_length b text slash n m f side (cell_of (at side) text slash cell is) is in
       rw (cell-events cell is) (omega arith)
 
   -- a keyword changes nothing
   pub keyword : (c : Cell Where) (j : ℕ) (touched : Slot → Bool) (now : Values)
-      → group_left (arc_slots j) touched now (cell_event (recordsAt b n m f) c ∷ []) ≡ now
+      → group_left (arc_slots j) touched now (cell_event (records_at b n m f) c ∷ []) ≡ now
   unfolding group_left cell_event
-  keyword c j touched now = fun_ext (λ t. quiet_stepped (arc_slots j) touched now (cell_event (recordsAt b n m f) c) t refl)
+  keyword c j touched now = fun_ext (λ t. quiet_stepped (arc_slots j) touched now (cell_event (records_at b n m f) c) t refl)
 
-  pub keyword-calm : (c : Cell Where) (j : ℕ) → Calm j (cell_event (recordsAt b n m f) c)
+  pub keyword-calm : (c : Cell Where) (j : ℕ) → Calm j (cell_event (records_at b n m f) c)
   unfolding cell_event
   keyword-calm c j = (λ t p. refl, λ t. tt)
 
@@ -128,7 +128,7 @@ module _ (b text : List ℕ) (slash : Bool) (n m f : ℕ) (side : Bool) where
         let c = cell_of (at side) text slash cell is in
         let v = cell-is cells row cell x s in
         let w : Of b n m f whom c = subst (λ (u : Whom). Of b n m f u c) (rw v at e) (whom_of_lem b bytes n m f good text slash side cell is) in
-        let k = cell_event (recordsAt b n m f) c in
+        let k = cell_event (records_at b n m f) c in
         let z = (rw v at run) bytes good j l d touched g c is now a refl w h in
         rw (cell-events cell is)
         (ran_on j touched now (k ∷ []) (entries_of b text slash n m f side c is) event st st' r
@@ -141,7 +141,7 @@ module _ (b text : List ℕ) (slash : Bool) (n m f : ℕ) (side : Bool) where
         let c = cell_of (at side) text slash cell is in
         let v = cell-is cells row cell x s in
         rw (cell-events cell is)
-        (ran_calm j touched now (cell_event (recordsAt b n m f) c ∷ entries_of b text slash n m f side c is) event st
+        (ran_calm j touched now (cell_event (records_at b n m f) c ∷ entries_of b text slash n m f side c is) event st
         (keyword-calm c j, calm bytes good j l cell is (rw v at y) (rw (v, d) at z) is a.2) h)
       where
         calm : Bytes b → check_of b ≡ Good n m f → (j : ℕ) → j < m → (cell : read.Cell) (is : List Item) → eqb cell.sort 2 ≡ false
@@ -205,7 +205,7 @@ module _ {Word : Type 0} (word : ℕ → Word) (text : List ℕ) (slash : Bool) 
 module _ (b text : List ℕ) (slash : Bool) (n m f : ℕ) (cells : List ℕ) (from to : ℕ) (entries : List ℕ) (q : ℕ) (flags st : List ℕ) (event : ℕ) where
   -- the events of the cells number `from` up to k
   abbrev pub past : List read.Cell → List Item → ℕ → List (Event Slot Where)
-  past cs is k = file_events (recordsAt b n m f) (drop from (take k (cells_of (at false) text slash cs is)))
+  past cs is k = file_events (records_at b n m f) (drop from (take k (cells_of (at false) text slash cs is)))
 
   -- they were run through, and the next has the number `next`
   abbrev pub CellsSoFar : ℕ → List ℕ → ℕ → Type 0
@@ -226,7 +226,7 @@ module _ (b text : List ℕ) (slash : Bool) (n m f : ℕ) (cells : List ℕ) (fr
       → Bytes b → check_of b ≡ Good n m f → (j : ℕ) → j < m → q ≡ place b j f → (touched : Slot → Bool) → Flags flags j touched
       → (count : ℕ) (cs : List read.Cell) (is : List Item) (now : Values) → CellsAre cells count cs → k < count
       → EntriesAre entries 0 (total cs) is → Holds18 o j now
-      → Ran j touched now (events (recordsAt b n m f) (cell_no (at false) text slash cs is k)) next o' r
+      → Ran j touched now (events (records_at b n m f) (cell_no (at false) text slash cs is k)) next o' r
   one k o o' first next r e run bytes good j l d touched g count cs is now c y a h =
       let x : k < length cs = rw c.0 y in
       let z : first ≡ before cs k = e ∙ before-is cells count cs c k (omega arith) in
@@ -235,7 +235,7 @@ module _ (b text : List ℕ) (slash : Bool) (n m f : ℕ) (cells : List ℕ) (fr
 
   -- and how many events it has
   one-length : (count : ℕ) (cs : List read.Cell) (is : List Item) (k : ℕ) → CellsAre cells count cs → k < count → EntriesAre entries 0 (total cs) is
-      → length (events (recordsAt b n m f) (cell_no (at false) text slash cs is k)) ≡ 1 + get_or cells (7 * k + 6) 0
+      → length (events (records_at b n m f) (cell_no (at false) text slash cs is k)) ≡ 1 + get_or cells (7 * k + 6) 0
   one-length count cs is k c y a =
       let x : k < length cs = rw c.0 y in
       let r : get_or cells (7 * k + 6) 0 ≡ (get_or cs k no_cell).entries = c.1 k y 6 (omega arith) in
@@ -243,24 +243,24 @@ module _ (b text : List ℕ) (slash : Bool) (n m f : ℕ) (cells : List ℕ) (fr
 
   -- the events behind it
   past_next : (cs : List read.Cell) (is : List Item) (k : ℕ) → from ≤ k → k < length cs
-      → past cs is (suc k) ≡ past cs is k ++ events (recordsAt b n m f) (cell_no (at false) text slash cs is k)
+      → past cs is (suc k) ≡ past cs is k ++ events (records_at b n m f) (cell_no (at false) text slash cs is k)
   unfolding file_events each
   past_next cs is k u x =
-      ap (file_events (recordsAt b n m f)) (part-next (at false) text slash cs is from k u x)
-      ∙ file-append (recordsAt b n m f) (drop from (take k (cells_of (at false) text slash cs is))) (cell_no (at false) text slash cs is k ∷ [])
-      ∙ ap (λ (w : List (Event Slot Where)). past cs is k ++ w) (append-nil (events (recordsAt b n m f) (cell_no (at false) text slash cs is k)))
+      ap (file_events (records_at b n m f)) (part-next (at false) text slash cs is from k u x)
+      ∙ file-append (records_at b n m f) (drop from (take k (cells_of (at false) text slash cs is))) (cell_no (at false) text slash cs is k ∷ [])
+      ∙ ap (λ (w : List (Event Slot Where)). past cs is k ++ w) (append-nil (events (records_at b n m f) (cell_no (at false) text slash cs is k)))
 
   pub past-at : (cs : List read.Cell) (is : List Item) (k : ℕ) → from ≤ k → k < to → k < length cs
       → (rest : List (Event Slot Where))
-      × (past cs is to ≡ (past cs is k ++ events (recordsAt b n m f) (cell_no (at false) text slash cs is k)) ++ rest)
+      × (past cs is to ≡ (past cs is k ++ events (records_at b n m f) (cell_no (at false) text slash cs is k)) ++ rest)
   unfolding file_events each
   past-at cs is k u v x =
       let s = part-at (at false) text slash cs is from k to u v x in
-      let rest = file_events (recordsAt b n m f) s.0 in (
+      let rest = file_events (records_at b n m f) s.0 in (
         rest,
-        ap (file_events (recordsAt b n m f)) s.1
-            ∙ file-append (recordsAt b n m f) (drop from (take k (cells_of (at false) text slash cs is))) (cell_no (at false) text slash cs is k ∷ s.0)
-            ∙ sym (append_assoc (past cs is k) (events (recordsAt b n m f) (cell_no (at false) text slash cs is k)) rest),
+        ap (file_events (records_at b n m f)) s.1
+            ∙ file-append (records_at b n m f) (drop from (take k (cells_of (at false) text slash cs is))) (cell_no (at false) text slash cs is k ∷ s.0)
+            ∙ sym (append_assoc (past cs is k) (events (records_at b n m f) (cell_no (at false) text slash cs is k)) rest),
       )
 
   pub cells-more : (k : ℕ) (o o' : List ℕ) (first next next' : ℕ) → from ≤ k → k < to → first ≡ entries_before cells k
@@ -269,7 +269,7 @@ module _ (b text : List ℕ) (slash : Bool) (n m f : ℕ) (cells : List ℕ) (fr
   cells-more k o o' first next next' u v e p so run bytes good j l d touched g count cs is now c x y a h =
       let was = so bytes good j l d touched g count cs is now c x y a h in
       let z : k < count = omega arith in
-      let this : List (Event Slot Where) = events (recordsAt b n m f) (cell_no (at false) text slash cs is k) in
+      let this : List (Event Slot Where) = events (records_at b n m f) (cell_no (at false) text slash cs is k) in
       let long = one-length count cs is k c z a in
       let both_long = length-append (past cs is k) this in
       rw (past_next cs is k u (rw c.0 z)) (
@@ -286,7 +286,7 @@ module _ (b text : List ℕ) (slash : Bool) (n m f : ℕ) (cells : List ℕ) (fr
   cells-stop k o o' first next ev num place side u v e so run bytes good j l d touched g count cs is now c x y a h =
       let was = so bytes good j l d touched g count cs is now c x y a h in
       let z : k < count = omega arith in
-      let this : List (Event Slot Where) = events (recordsAt b n m f) (cell_no (at false) text slash cs is k) in
+      let this : List (Event Slot Where) = events (records_at b n m f) (cell_no (at false) text slash cs is k) in
       let s = past-at cs is k u v (rw c.0 z) in
       let r : Least = least.Fault ev num place side in
       rw s.1

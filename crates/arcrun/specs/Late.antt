@@ -25,7 +25,7 @@ use Rattle.history.specs.Faults.{Fault, later}
 use Rattle.history.specs.Sheet.{Slot, Values, Cell, arc_slots, cell_event, entry_event, events, file_events}
 use Rattle.applying.specs.Says.{entry_of, cell_of, cells_of}
 use Rattle.applying.specs.Rows.{CellIs, cell-is}
-use Rattle.applying.specs.Instances.{recordsAt}
+use Rattle.applying.specs.Instances.{records_at}
 use Rattle.meaning.specs.declared.Whom.{Whom}
 use Rattle.meaning.specs.Whom.{whom_of}
 use Rattle.meaning.specs.Entries.{no_item, EntriesAre}
@@ -55,14 +55,14 @@ module _ (b text : List ℕ) (slash : Bool) (n m f : ℕ) where
   EntriesLate side t first count whom type q flags st event ev x =
       Bytes b → check_of b ≡ Good n m f → (j : ℕ) → j < m → q ≡ place b j f → (touched : Slot → Bool) → Flags flags j touched
       → (c : Cell Where) (is : List Item) (now : Values) → EntriesAre t first count is → c.type ≡ type → Of b n m f whom c → Holds18 st j now
-      → Late j touched now (map (entry_event (recordsAt b n m f) c) (map (entry_of (at side) text slash) is)) event ev x
+      → Late j touched now (map (entry_event (records_at b n m f) c) (map (entry_of (at side) text slash) is)) event ev x
 
   -- one cell
   abbrev pub CellLate : (side : Bool) (cells : List ℕ) (row : ℕ) (entries : List ℕ) (first q : ℕ) (flags st : List ℕ) (event ev x : ℕ) → Type 0
   CellLate side cells row entries first q flags st event ev x =
       Bytes b → check_of b ≡ Good n m f → (j : ℕ) → j < m → q ≡ place b j f → (touched : Slot → Bool) → Flags flags j touched
       → (cell : read.Cell) (is : List Item) (now : Values) → CellIs cells row cell → cell.sort < 256 → EntriesAre entries first cell.entries is
-      → Holds18 st j now → Late j touched now (events (recordsAt b n m f) (cell_of (at side) text slash cell is)) event ev x
+      → Holds18 st j now → Late j touched now (events (records_at b n m f) (cell_of (at side) text slash cell is)) event ev x
 
   -- the file's cells number `from` up to `to`
   abbrev pub CellsLate : (cells : List ℕ) (from to : ℕ) (entries : List ℕ) (q : ℕ) (flags st : List ℕ) (event ev x : ℕ) → Type 0
@@ -70,7 +70,7 @@ module _ (b text : List ℕ) (slash : Bool) (n m f : ℕ) where
       Bytes b → check_of b ≡ Good n m f → (j : ℕ) → j < m → q ≡ place b j f → (touched : Slot → Bool) → Flags flags j touched
       → (count : ℕ) (cs : List read.Cell) (is : List Item) (now : Values) → CellsAre cells count cs → from ≤ to → to ≤ count
       → EntriesAre entries 0 (total cs) is → Holds18 st j now
-      → Late j touched now (file_events (recordsAt b n m f) (drop from (take to (cells_of (at false) text slash cs is)))) event ev x
+      → Late j touched now (file_events (records_at b n m f) (drop from (take to (cells_of (at false) text slash cs is)))) event ev x
 
 -- 2. Events and more events
 
@@ -178,7 +178,7 @@ module _ (b text : List ℕ) (slash : Bool) (n m f : ℕ) (side : Bool) where
         let c = cell_of (at side) text slash cell is in
         let v = cell-is cells row cell x s in
         let w : Of b n m f whom c = subst (λ (u : Whom). Of b n m f u c) (rw v at e) (whom_of_lem b bytes n m f good text slash side cell is) in
-        let k = cell_event (recordsAt b n m f) c in
+        let k = cell_event (records_at b n m f) c in
         let z = (rw v at late) bytes good j l d touched g c is now a refl w h in
         rw (cell-events b text slash n m f side cell is)
         (late_on j touched now (k ∷ []) (entries_of b text slash n m f side c is) event ev num
@@ -194,7 +194,7 @@ module _ (b text : List ℕ) (slash : Bool) (n m f : ℕ) (cells : List ℕ) (fr
       → Bytes b → check_of b ≡ Good n m f → (j : ℕ) → j < m → q ≡ place b j f → (touched : Slot → Bool) → Flags flags j touched
       → (count : ℕ) (cs : List read.Cell) (is : List Item) (now : Values) → CellsAre cells count cs → k < count
       → EntriesAre entries 0 (total cs) is → Holds18 o j now
-      → Late j touched now (events (recordsAt b n m f) (cell_no (at false) text slash cs is k)) next ev x
+      → Late j touched now (events (records_at b n m f) (cell_no (at false) text slash cs is k)) next ev x
   one_late k o first next ev num e late bytes good j l d touched g count cs is now c y a h =
       let x : k < length cs = rw c.0 y in
       let z : first ≡ before cs k = e ∙ before-is cells count cs c k (omega arith) in
@@ -210,7 +210,7 @@ module _ (b text : List ℕ) (slash : Bool) (n m f : ℕ) (cells : List ℕ) (fr
       let was = so bytes good j l d touched g count cs is now c x y a h in
       let z : k < count = omega arith in
       let es = past b text slash n m f cells from to entries q flags st event cs is k in
-      let this : List (Event Slot Where) = events (recordsAt b n m f) (cell_no (at false) text slash cs is k) in
+      let this : List (Event Slot Where) = events (records_at b n m f) (cell_no (at false) text slash cs is k) in
       let s = past-at b text slash n m f cells from to entries q flags st event cs is k u v (rw c.0 z) in
       rw s.1
       (late_append j touched now (es ++ this) s.0 event ev num

@@ -20,7 +20,7 @@ use Rattle.history.specs.Sheet as part
 use Rattle.history.specs.Sheet.{every, Slot, Values, Cell, arc_slots, cell_number, entry_event, events, file_events}
 use Rattle.applying.specs.Says.{entry_of, cell_of, cells_of}
 use Rattle.applying.specs.Rows.{CellIs}
-use Rattle.applying.specs.Instances.{recordsAt}
+use Rattle.applying.specs.Instances.{records_at}
 use Rattle.meaning.specs.declared.Whom.{Whom}
 use Rattle.meaning.specs.declared.Whom.TheVariants.{One, Every, Nobody}
 use Rattle.meaning.specs.Entries.{rows_at, EntriesAre}
@@ -60,7 +60,7 @@ Of b n m f (One p) c =
     (k : ℕ) × (k < n) × (p ≡ nth (in_end b) k 12) × (c.part ≡ part.at (path_at b p))
     × (same_text (type_at b p) c.type ≡ true)
 Of b n m f Every c = c.part ≡ every
-Of b n m f (Nobody x) c = cell_number (recordsAt b n m f) c ≡ some x
+Of b n m f (Nobody x) c = cell_number (records_at b n m f) c ≡ some x
 
 -- what every run is told: the sheet was checked, the arc at q is its number j, and the flags are those of its touched slots
 module _ (b text : List ℕ) (slash : Bool) (n m f : ℕ) where
@@ -68,13 +68,13 @@ module _ (b text : List ℕ) (slash : Bool) (n m f : ℕ) where
   EntriesRan side t first count whom type q flags st st' event r =
       Bytes b → check_of b ≡ Good n m f → (j : ℕ) → j < m → q ≡ place b j f → (touched : Slot → Bool) → Flags flags j touched
       → (c : Cell Where) (is : List Item) (now : Values) → EntriesAre t first count is → c.type ≡ type → Of b n m f whom c → Holds18 st j now
-      → Ran j touched now (map (entry_event (recordsAt b n m f) c) (map (entry_of (at side) text slash) is)) event st' r
+      → Ran j touched now (map (entry_event (records_at b n m f) c) (map (entry_of (at side) text slash) is)) event st' r
 
   abbrev pub CellRan : (side : Bool) (cells : List ℕ) (row : ℕ) (entries : List ℕ) (first q : ℕ) (flags st st' : List ℕ) (event : ℕ) → Least → Type 0
   CellRan side cells row entries first q flags st st' event r =
       Bytes b → check_of b ≡ Good n m f → (j : ℕ) → j < m → q ≡ place b j f → (touched : Slot → Bool) → Flags flags j touched
       → (cell : read.Cell) (is : List Item) (now : Values) → CellIs cells row cell → cell.sort < 256 → EntriesAre entries first cell.entries is
-      → Holds18 st j now → Ran j touched now (events (recordsAt b n m f) (cell_of (at side) text slash cell is)) event st' r
+      → Holds18 st j now → Ran j touched now (events (records_at b n m f) (cell_of (at side) text slash cell is)) event st' r
 
   -- the file's cells number `from` up to `to`
   abbrev pub CellsRan : (cells : List ℕ) (from to : ℕ) (entries : List ℕ) (q : ℕ) (flags st st' : List ℕ) (event : ℕ) → Least → Type 0
@@ -82,4 +82,4 @@ module _ (b text : List ℕ) (slash : Bool) (n m f : ℕ) where
       Bytes b → check_of b ≡ Good n m f → (j : ℕ) → j < m → q ≡ place b j f → (touched : Slot → Bool) → Flags flags j touched
       → (count : ℕ) (cs : List read.Cell) (is : List Item) (now : Values) → CellsAre cells count cs → from ≤ to → to ≤ count
       → EntriesAre entries 0 (total cs) is → Holds18 st j now
-      → Ran j touched now (file_events (recordsAt b n m f) (drop from (take to (cells_of (at false) text slash cs is)))) event st' r
+      → Ran j touched now (file_events (records_at b n m f) (drop from (take to (cells_of (at false) text slash cs is)))) event st' r

@@ -32,7 +32,7 @@ use Rattle.slots.specs.Slots.{slot_at}
 use Rattle.applying.specs.Says.{group_of, entry_of}
 use Rattle.applying.specs.Judged.{supply, arc_is, given_is}
 use Rattle.applying.specs.Rows.{EntryIs, head_is, item-expanded, timely}
-use Rattle.applying.specs.Instances.{recordsAt}
+use Rattle.applying.specs.Instances.{records_at}
 use Rattle.meaning.specs.declared.Whom.{Whom}
 use Rattle.meaning.specs.declared.Whom.TheVariants.{One, Every, Nobody}
 use Rattle.meaning.specs.CellList.{each_at}
@@ -90,7 +90,7 @@ module _ (b : List ℕ) (bytes : Bytes b) (n m f : ℕ) (good : check_of b ≡ G
 
   -- the history's word on it
   abbrev means : Cell Where → Item → Bool
-  means c i = arc_is (recordsAt b n m f) (addresses (recordsAt b n m f) c (entry_of (at side) text slash i)) j
+  means c i = arc_is (records_at b n m f) (addresses (records_at b n m f) c (entry_of (at side) text slash i)) j
 
   -- and the program's
   pub meant_for_lem : (whom : Whom) (c : Cell Where) (i : Item) → Of b n m f whom c
@@ -99,23 +99,23 @@ module _ (b : List ℕ) (bytes : Bytes b) (n m f : ℕ) (good : check_of b ≡ G
   meant_for_lem (One p) c i w =
       rw w.2 (meant-one b bytes n m f good text slash (at side) i c w.0 w.1 (rw w.2 at w.3) (rw w.2 at w.4) j inside)
   meant_for_lem Every c i w = meant-every b bytes n m f good text slash (at side) i c w j inside
-  meant_for_lem (Nobody x) c i w = sym (meant-none (recordsAt b n m f) c (entry_of (at side) text slash i) x w j)
+  meant_for_lem (Nobody x) c i w = sym (meant-none (records_at b n m f) c (entry_of (at side) text slash i) x w j)
 
   -- the entry's event
   abbrev pub event_of : Cell Where → Item → Event Slot Where
-  event_of c i = entry_event (recordsAt b n m f) c (entry_of (at side) text slash i)
+  event_of c i = entry_event (records_at b n m f) c (entry_of (at side) text slash i)
 
   pub gives_is : (c : Cell Where) (i : Item) (t : Slot) → t.arc ≡ j
       → (event_of c i).gives t ≡ pick (means c i) (supply (entry_of (at side) text slash i) t) nothing
   unfolding entry_event
-  gives_is c i t e = rw (given_is (recordsAt b n m f) c (entry_of (at side) text slash i) t, e)
+  gives_is c i t e = rw (given_is (records_at b n m f) c (entry_of (at side) text slash i) t, e)
 
   -- all times that it gives are in range
   pub gives_fits : (c : Cell Where) (i : Item) → SoundItem i → (t : Slot) → Fits ((event_of c i).gives t)
   unfolding entry_event supply entry_of
   gives_fits c i s t =
-      rw (given_is (recordsAt b n m f) c (entry_of (at side) text slash i) t)
-      (by (arc_is (recordsAt b n m f) (addresses (recordsAt b n m f) c (entry_of (at side) text slash i)) t.arc))
+      rw (given_is (records_at b n m f) c (entry_of (at side) text slash i) t)
+      (by (arc_is (records_at b n m f) (addresses (records_at b n m f) c (entry_of (at side) text slash i)) t.arc))
     where
       by : (y : Bool) → Fits (pick y (supply (entry_of (at side) text slash i) t) nothing)
       by true =
@@ -254,29 +254,29 @@ module _ (j : ℕ) (touched : Slot → Bool) where
 module _ (b text : List ℕ) (slash : Bool) (n m f : ℕ) (side : Bool) where
   -- the events of a cell's entries
   abbrev pub entries_of : Cell Where → List Item → List (Event Slot Where)
-  entries_of c is = map (entry_event (recordsAt b n m f) c) (map (entry_of (at side) text slash) is)
+  entries_of c is = map (entry_event (records_at b n m f) c) (map (entry_of (at side) text slash) is)
 
   -- entry number k among them
   pub events-at : (c : Cell Where) (is : List Item) (k : ℕ) → k < length is
       → entries_of c is ≡ entries_of c (take k is)
-      ++ (entry_event (recordsAt b n m f) c (entry_of (at side) text slash (get_or is k no_item)) ∷ entries_of c (drop (suc k) is))
+      ++ (entry_event (records_at b n m f) c (entry_of (at side) text slash (get_or is k no_item)) ∷ entries_of c (drop (suc k) is))
   events-at c [] k h = absurd (omega arith)
   events-at c (i ∷ is) zero h = refl
   events-at c (i ∷ is) (suc k) h =
-      ap (λ l. entry_event (recordsAt b n m f) c (entry_of (at side) text slash i) ∷ l) (events-at c is k (omega arith))
+      ap (λ l. entry_event (records_at b n m f) c (entry_of (at side) text slash i) ∷ l) (events-at c is k (omega arith))
 
   events-next : (c : Cell Where) (is : List Item) (k : ℕ) → k < length is
       → entries_of c (take (suc k) is)
-      ≡ entries_of c (take k is) ++ (entry_event (recordsAt b n m f) c (entry_of (at side) text slash (get_or is k no_item)) ∷ [])
+      ≡ entries_of c (take k is) ++ (entry_event (records_at b n m f) c (entry_of (at side) text slash (get_or is k no_item)) ∷ [])
   events-next c [] k h = absurd (omega arith)
   events-next c (i ∷ is) zero h = refl
   events-next c (i ∷ is) (suc k) h =
-      ap (λ l. entry_event (recordsAt b n m f) c (entry_of (at side) text slash i) ∷ l) (events-next c is k (omega arith))
+      ap (λ l. entry_event (records_at b n m f) c (entry_of (at side) text slash i) ∷ l) (events-next c is k (omega arith))
 
   -- each entry has one
   pub entries_length : (c : Cell Where) (is : List Item) → length (entries_of c is) ≡ length is
   entries_length c is =
-      length-map (map (entry_of (at side) text slash) is) (entry_event (recordsAt b n m f) c) ∙ length-map is (entry_of (at side) text slash)
+      length-map (map (entry_of (at side) text slash) is) (entry_event (records_at b n m f) c) ∙ length-map is (entry_of (at side) text slash)
 
   module _ (t : List ℕ) (first count : ℕ) (whom : Whom) (type : List ℕ) (q : ℕ) (flags st : List ℕ) (event : ℕ) where
     -- the first k entries were run through
@@ -284,7 +284,7 @@ module _ (b text : List ℕ) (slash : Bool) (n m f : ℕ) (side : Bool) where
     RunSoFar k o =
         Bytes b → check_of b ≡ Good n m f → (j : ℕ) → j < m → q ≡ place b j f → (touched : Slot → Bool) → Flags flags j touched
         → (c : Cell Where) (is : List Item) (now : Values) → EntriesAre t first count is → c.type ≡ type → Of b n m f whom c → Holds18 st j now
-        → Ran j touched now (map (entry_event (recordsAt b n m f) c) (map (entry_of (at side) text slash) (take k is))) event o least.Nothing
+        → Ran j touched now (map (entry_event (records_at b n m f) c) (map (entry_of (at side) text slash) (take k is))) event o least.Nothing
 
     pub run_none : RunSoFar 0 st
     run_none bytes good j l e touched g c is now a ty w h = ran_none j touched now event st h
@@ -325,7 +325,7 @@ module _ (b text : List ℕ) (slash : Bool) (n m f : ℕ) (side : Bool) where
         let u = sym (entry-number b bytes n m f good text slash side j l touched t (28 * (first + k)) i (a.1 k d) s c whom w flags g o then was.1)
         ∙ (rw (e, ← ty) at (sym z)) in
         rw (events-at c is k v)
-        (rw p at (ran_stop j touched now (entries_of c (take k is)) (entries_of c (drop (suc k) is)) (entry_event (recordsAt b n m f) c (entry_of (at side) text slash i))
+        (rw p at (ran_stop j touched now (entries_of c (take k is)) (entries_of c (drop (suc k) is)) (entry_event (records_at b n m f) c (entry_of (at side) text slash i))
         event o o' x (get_or t (28 * (first + k) + 2) 0) side was u y (rw (place_at is a k d))))
 
     pub run_end : (o : List ℕ) → RunSoFar count o → EntriesRan b text slash n m f side t first count whom type q flags st o event least.Nothing

@@ -24,7 +24,7 @@ use Rattle.amounts.specs.Amounts.{expanded}
 use Rattle.applying.specs.Says.{entry_of, cell_of, cells_of}
 use Rattle.applying.specs.Judged.{any_append, arc_is, supply, given_is}
 use Rattle.applying.specs.Rows.{EntryIs, head_is, item-expanded}
-use Rattle.applying.specs.Instances.{recordsAt}
+use Rattle.applying.specs.Instances.{records_at}
 use Rattle.meaning.specs.declared.Whom.{Whom}
 use Rattle.meaning.specs.declared.Whom.TheVariants.{One, Every, Nobody}
 use Rattle.meaning.specs.Entries.{rows_at, no_item, EntriesAre}
@@ -71,37 +71,37 @@ module _ (b : List ℕ) (bytes : Bytes b) (n m f : ℕ) (good : check_of b ≡ G
   -- the program's question is whether the entry addresses the arc
   pub meant_for_lem : (i : Item) (c : Cell Where) (whom : Whom) → Of b n m f whom c
       → meant_for b text slash n i.head whom c.type (place b j f)
-      ≡ arc_is (recordsAt b n m f) (addresses (recordsAt b n m f) c (entry_of (at side) text slash i)) j
+      ≡ arc_is (records_at b n m f) (addresses (records_at b n m f) c (entry_of (at side) text slash i)) j
   unfolding meant_for
   meant_for_lem i c (One p) w =
       rw w.2 (meant-one b bytes n m f good text slash (at side) i c w.0 w.1 (rw w.2 at w.3) (rw w.2 at w.4) j j-below)
   meant_for_lem i c Every w = meant-every b bytes n m f good text slash (at side) i c w j j-below
-  meant_for_lem i c (Nobody x) w = sym (meant-none (recordsAt b n m f) c (entry_of (at side) text slash i) x w j)
+  meant_for_lem i c (Nobody x) w = sym (meant-none (records_at b n m f) c (entry_of (at side) text slash i) x w j)
 
   -- the events of a cell's entries
   abbrev pub entry_events : Cell Where → List Item → List (Event Slot Where)
-  entry_events c is = map (entry_event (recordsAt b n m f) c) (map (entry_of (at side) text slash) is)
+  entry_events c is = map (entry_event (records_at b n m f) c) (map (entry_of (at side) text slash) is)
 
   -- what an entry supplies to a slot
   entry-supplies : (c : Cell Where) (i : Item) (s : Slot)
-      → supplied ((entry_event (recordsAt b n m f) c (entry_of (at side) text slash i)).gives s)
-      ≡ and (arc_is (recordsAt b n m f) (addresses (recordsAt b n m f) c (entry_of (at side) text slash i)) s.arc)
+      → supplied ((entry_event (records_at b n m f) c (entry_of (at side) text slash i)).gives s)
+      ≡ and (arc_is (records_at b n m f) (addresses (records_at b n m f) c (entry_of (at side) text slash i)) s.arc)
       (supplied (supply (entry_of (at side) text slash i) s))
   unfolding entry_event
   entry-supplies c i s =
-      rw (given_is (recordsAt b n m f) c (entry_of (at side) text slash i) s)
-      (given-supplied (arc_is (recordsAt b n m f) (addresses (recordsAt b n m f) c (entry_of (at side) text slash i)) s.arc)
+      rw (given_is (records_at b n m f) c (entry_of (at side) text slash i) s)
+      (given-supplied (arc_is (records_at b n m f) (addresses (records_at b n m f) c (entry_of (at side) text slash i)) s.arc)
       (supply (entry_of (at side) text slash i) s))
 
   -- an entry touches what it supplies; one that does not mean the arc supplies nothing there
   pub entry-touched : (t : List ℕ) (row : ℕ) (i : Item) → EntryIs t row i → SoundItem i → (c : Cell Where) (whom : Whom) → Of b n m f whom c
       → (flags : List ℕ) (touched : Slot → Bool) → Flags flags j touched
       → Flags (pick (meant_for b text slash n (head_at t row) whom c.type (place b j f)) (touched_flags flags (rows_at t row) 18) flags) j
-      (λ s. or (touched s) (supplied ((entry_event (recordsAt b n m f) c (entry_of (at side) text slash i)).gives s)))
+      (λ s. or (touched s) (supplied ((entry_event (records_at b n m f) c (entry_of (at side) text slash i)).gives s)))
   unfolding rows_at slot_at
   entry-touched t row i r sound c whom w flags touched g =
       rw (head_is t row i r sound, meant_for_lem i c whom w)
-      (by (arc_is (recordsAt b n m f) (addresses (recordsAt b n m f) c (entry_of (at side) text slash i)) j) refl)
+      (by (arc_is (records_at b n m f) (addresses (records_at b n m f) c (entry_of (at side) text slash i)) j) refl)
     where
       e : Entry Where
       e = entry_of (at side) text slash i
@@ -109,8 +109,8 @@ module _ (b : List ℕ) (bytes : Bytes b) (n m f : ℕ) (good : check_of b ≡ G
       rows : List (List ℕ)
       rows = expanded t (row + 10) (eqb i.head.group 84) (get_or t (row + 9) 0)
 
-      by : (y : Bool) → arc_is (recordsAt b n m f) (addresses (recordsAt b n m f) c e) j ≡ y
-          → Flags (pick y (touched_flags flags rows 18) flags) j (λ s. or (touched s) (supplied ((entry_event (recordsAt b n m f) c e).gives s)))
+      by : (y : Bool) → arc_is (records_at b n m f) (addresses (records_at b n m f) c e) j ≡ y
+          → Flags (pick y (touched_flags flags rows 18) flags) j (λ s. or (touched s) (supplied ((entry_event (records_at b n m f) c e).gives s)))
       by true q =
           flags_same (touched_flags flags rows 18) j _ _ (touch_flags (item-expanded (at side) text slash t row i r sound) g)
           (λ k l. rw (entry-supplies c i (slot_at j k), q, eq-eqb j j refl))
@@ -121,10 +121,10 @@ module _ (b : List ℕ) (bytes : Bytes b) (n m f : ℕ) (good : check_of b ≡ G
   -- entry number k is next among the events
   pub events-next : (c : Cell Where) (is : List Item) (k : ℕ) → k < length is
       → entry_events c (take (suc k) is)
-      ≡ entry_events c (take k is) ++ (entry_event (recordsAt b n m f) c (entry_of (at side) text slash (get_or is k no_item)) ∷ [])
+      ≡ entry_events c (take k is) ++ (entry_event (records_at b n m f) c (entry_of (at side) text slash (get_or is k no_item)) ∷ [])
   events-next c [] k l = absurd (omega arith)
   events-next c (i ∷ is) zero l = refl
-  events-next c (i ∷ is) (suc k) l = ap (λ es. entry_event (recordsAt b n m f) c (entry_of (at side) text slash i) ∷ es) (events-next c is k (omega arith))
+  events-next c (i ∷ is) (suc k) l = ap (λ es. entry_event (records_at b n m f) c (entry_of (at side) text slash i) ∷ es) (events-next c is k (omega arith))
 
   module _ (t : List ℕ) (first count : ℕ) (whom : Whom) (c : Cell Where) (w : Of b n m f whom c) (is : List Item) (a : EntriesAre t first count is)
       (flags : List ℕ) (touched : Slot → Bool) (g : Flags flags j touched) where
@@ -137,7 +137,7 @@ module _ (b : List ℕ) (bytes : Bytes b) (n m f : ℕ) (good : check_of b ≡ G
     entries_so_far_lem (suc k) l =
         let h : k < length is = (let z = a.0 in omega arith) in
         let i = get_or is k no_item in
-        let e = entry_event (recordsAt b n m f) c (entry_of (at side) text slash i) in
+        let e = entry_event (records_at b n m f) c (entry_of (at side) text slash i) in
         flags_same _ j _ _
         (entry-touched t (28 * (first + k)) i (a.1 k (omega arith)) (each_at SoundItem is no_item a.2 k h) c whom w _ _ (entries_so_far_lem k (omega arith)))
         (λ x y. rw (events-next c is k h, supply-append (entry_events c (take k is)) (e ∷ []) (slot_at j x), supply-one e (slot_at j x))
@@ -171,11 +171,11 @@ module _ (b : List ℕ) (bytes : Bytes b) (n m f : ℕ) (good : check_of b ≡ G
       → Of b n m f whom (cell_of (at side) text slash cell is) → EntriesAre t first count is
       → (flags : List ℕ) (touched : Slot → Bool) → Flags flags j touched
       → Flags (entries_touched b text slash n t first whom (cell_of (at side) text slash cell is).type (place b j f) flags count) j
-      (λ s. or (touched s) (some-event.supply (events (recordsAt b n m f) (cell_of (at side) text slash cell is)) s))
+      (λ s. or (touched s) (some-event.supply (events (records_at b n m f) (cell_of (at side) text slash cell is)) s))
   cell-supplies text side t first count whom cell is w a flags touched g =
       let c = cell_of (at side) text slash cell is in
       flags_same _ j _ _ (entries_touched_lem b bytes n m f good text slash side j j-below t first count whom c w is a flags touched g)
-      (λ i l. rw (supply-events (recordsAt b n m f) (at side) text slash cell is (slot_at j i)))
+      (λ i l. rw (supply-events (records_at b n m f) (at side) text slash cell is (slot_at j i)))
 
   -- 'every value slot supplied by the outgoing or the incoming cell'
   pub both-touched : (file : List ℕ) (t1 : List ℕ) (first1 count1 : ℕ) (whom1 : Whom) (cell1 : read.Cell) (is1 : List Item)
@@ -184,7 +184,7 @@ module _ (b : List ℕ) (bytes : Bytes b) (n m f : ℕ) (good : check_of b ≡ G
       → Of b n m f whom2 (cell_of (at true) text slash cell2 is2) → EntriesAre t2 first2 count2 is2
       → Flags (entries_touched b text slash n t2 first2 whom2 (cell_of (at true) text slash cell2 is2).type (place b j f)
       (entries_touched b file slash n t1 first1 whom1 (cell_of (at false) file slash cell1 is1).type (place b j f) (replicate 18 0) count1) count2) j
-      (affected (events (recordsAt b n m f) (cell_of (at false) file slash cell1 is1)) (events (recordsAt b n m f) (cell_of (at true) text slash cell2 is2)))
+      (affected (events (records_at b n m f) (cell_of (at false) file slash cell1 is1)) (events (records_at b n m f) (cell_of (at true) text slash cell2 is2)))
   unfolding affected
   both-touched file t1 first1 count1 whom1 cell1 is1 w1 a1 text t2 first2 count2 whom2 cell2 is2 w2 a2 =
       cell-supplies text true t2 first2 count2 whom2 cell2 is2 w2 a2 _ _

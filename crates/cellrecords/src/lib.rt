@@ -1,6 +1,6 @@
 // Cells in a lent slice of records: how many it has room for, the one at a number, and as many of them as a table of cells has rows.
 ghost use Rattle.std.specs.Prelude.{◌≡◌, ◌++◌, ◌+◌, ◌*◌, ◌≤◌, ◌<◌, length, get_or, set, drop};
-ghost use Rattle.cellrecords.specs.Records.{no_record, recordOf, recordsOf};
+ghost use Rattle.cellrecords.specs.Records.{no_record, record_of, records_of};
 
 use grammar::Cell;
 
@@ -30,7 +30,7 @@ pub fn store_record(records: &mut [Cell], k: usize, cell: Cell)
 // Row k of a table of cells.
 fn row_at(table: &[u64], k: usize) -> Cell
     requires { 7 * k + 7 ≤ length table.now }
-    ensures { result ≡ recordOf table.now k }
+    ensures { result ≡ record_of table.now k }
 {
     views::cell_at(table, 7 * k)
 }
@@ -38,7 +38,7 @@ fn row_at(table: &[u64], k: usize) -> Cell
 // Fills the first n records from the first n rows of a table of cells. The records behind them stay as lent.
 pub fn fill_records(records: &mut [Cell], table: &[u64], n: usize)
     requires { (n ≤ length records.old) × (7 * n ≤ length table.now) }
-    ensures { records.new ≡ recordsOf table.now n ++ drop n records.old }
+    ensures { records.new ≡ records_of table.now n ++ drop n records.old }
 {
     let mut k = 0;
     while k < n {

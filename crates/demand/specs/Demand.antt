@@ -46,7 +46,7 @@ use Rattle.history.specs.Sheet.{Slot, Values, Cell, Cut, cut, behind, swapped}
 use Rattle.history.specs.Sheet as history
 use Rattle.history.specs.Places.{renamed_entry, renamed_cell, renamed_answer}
 use Rattle.slots.specs.Slots.{values_of, sheet_at}
-use Rattle.applying.specs.Instances.{recordsAt}
+use Rattle.applying.specs.Instances.{records_at}
 use Rattle.applying.specs.Says.{name_at, entry_of, part_at, cell_of, cells_of}
 use Rattle.meaning.specs.CellList.{each_take, each-drop}
 use Rattle.meaning.specs.declared.Annotated.TheVariants as annotated
@@ -436,7 +436,7 @@ same-refusal n n' w w' e =
 -- the course of annotating with a text that is read
 new-course : (start text : List ℕ) (cr ir n m f : ℕ) (st : At) → check_of start ≡ Good n m f → read_file cr ir text ≡ fine st
     → annotating.course start text cr ir (length start)
-    ≡ annotating.judged (sheet_at start n m f) st (history.annotate (recordsAt start n m f) (values_of (sheet_at start n m f)) (annotating.said text st))
+    ≡ annotating.judged (sheet_at start n m f) st (history.annotate (records_at start n m f) (values_of (sheet_at start n m f)) (annotating.said text st))
 unfolding annotating.course decode
 new-course start text cr ir n m f st good read = rw (good, eq-eqb (length start) (length start) refl, read)
 
@@ -497,9 +497,9 @@ demand_3 start text number comes current cr ir cr2 ir2 cr' ir' bs bc long out s 
     let cells = new-cells text comes N number _ _ _ _ st st2 st' S l1 l2 (cell_slash st.book.slash st.book.unit cr2 ir2 comes st2 read2).0
     (cell_sound st.book.slash st.book.unit cr2 ir2 comes st2 read2).entries A.split A.there in
     let answer : Answer Slot Where =
-    history.annotate (recordsAt start n m f) (values_of (sheet_at start n m f)) (swapped A.split (first_cell (said true comes st2))) in
-    let told : history.annotate (recordsAt start n m f) (values_of (sheet_at start n m f)) (annotating.said N st') ≡ renamed_answer g answer =
-    ap (history.annotate (recordsAt start n m f) (values_of (sheet_at start n m f))) cells ∙ A.places g in
+    history.annotate (records_at start n m f) (values_of (sheet_at start n m f)) (swapped A.split (first_cell (said true comes st2))) in
+    let told : history.annotate (records_at start n m f) (values_of (sheet_at start n m f)) (annotating.said N st') ≡ renamed_answer g answer =
+    ap (history.annotate (records_at start n m f) (values_of (sheet_at start n m f))) cells ∙ A.places g in
     let ran = new-course start N cr' ir' n m f st' good r ∙ ap (annotating.judged (sheet_at start n m f) st') told in (
       st',
       r,

@@ -9,7 +9,7 @@ use Rattle.grammar.specs.declared.Cell as read
 use Rattle.grammar.specs.Meaning.{Item}
 use Rattle.sound.specs.Sound.{Each, total}
 use Rattle.history.specs.Sheet.{Values, events, file_events}
-use Rattle.slots.specs.Slots.{recordsOf, sheet_at, values_of}
+use Rattle.slots.specs.Slots.{records_of, sheet_at, values_of}
 use Rattle.history.specs.Sheet as history
 use Rattle.applying.specs.Says.{cell_of, cells_of}
 use Rattle.applying.specs.Rows.{CellIs}
@@ -56,17 +56,17 @@ module _ (b text : List ℕ) (slash : Bool) (n m f : ℕ) (cells : List ℕ) whe
   abbrev pub CellRun : (row : ℕ) (entries : List ℕ) (first : ℕ) (out out' : List ℕ) → Annotated → Type 0
   CellRun row entries first out out' r =
       Bytes b → check_of b ≡ Good n m f → (cell : read.Cell) (is : List Item) (now : Values) → CellIs cells row cell → cell.sort < 256 → EntriesAre entries first cell.entries is
-      → Kept b n m f out now → Went b n m f now (events (recordsOf (sheet_at b n m f)) (cell_of (λ p. p) text slash cell is)) out' r
+      → Kept b n m f out now → Went b n m f now (events (records_of (sheet_at b n m f)) (cell_of (λ p. p) text slash cell is)) out' r
 
   -- and for the first `count` cells
   abbrev pub CellsRun : (count : ℕ) (entries out out' : List ℕ) → Annotated → Type 0
   CellsRun count entries out out' r =
       Bytes b → check_of b ≡ Good n m f → (cs : List read.Cell) (is : List Item) (now : Values) → CellsAre cells count cs → EntriesAre entries 0 (total cs) is → Kept b n m f out now
-      → Went b n m f now (file_events (recordsOf (sheet_at b n m f)) (cells_of (λ p. p) text slash cs is)) out' r
+      → Went b n m f now (file_events (records_of (sheet_at b n m f)) (cells_of (λ p. p) text slash cs is)) out' r
 
   -- and for the whole: the starting sheet's values are those that it begins with
   abbrev pub TextRun : (count : ℕ) (entries out' : List ℕ) → Annotated → Type 0
   TextRun count entries out' r =
       Bytes b → (cs : List read.Cell) (is : List Item) → CellsAre cells count cs → EntriesAre entries 0 (total cs) is
-      → (r ≡ says_of (history.annotate (recordsOf (sheet_at b n m f)) (values_of (sheet_at b n m f)) (cells_of (λ p. p) text slash cs is)))
-      × (out' ≡ sheet_of b (sheet_at b n m f) (history.annotate (recordsOf (sheet_at b n m f)) (values_of (sheet_at b n m f)) (cells_of (λ p. p) text slash cs is)))
+      → (r ≡ says_of (history.annotate (records_of (sheet_at b n m f)) (values_of (sheet_at b n m f)) (cells_of (λ p. p) text slash cs is)))
+      × (out' ≡ sheet_of b (sheet_at b n m f) (history.annotate (records_of (sheet_at b n m f)) (values_of (sheet_at b n m f)) (cells_of (λ p. p) text slash cs is)))

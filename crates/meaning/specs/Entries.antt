@@ -10,7 +10,7 @@ use Rattle.views.specs.Views.{head_at}
 use Rattle.history.specs.Events.{Event, refused, folded}
 use Rattle.history.specs.Sheet.{Slot, Values, Cell, entry_event, slots_of}
 use Rattle.history.specs.Ranges.{InRange}
-use Rattle.slots.specs.Slots.{recordsOf, spelled, sheet_at}
+use Rattle.slots.specs.Slots.{records_of, spelled, sheet_at}
 use Rattle.amounts.specs.Amounts.{expanded}
 use Rattle.applying.specs.Says.{entry_of}
 use Rattle.applying.specs.Rows.{EntryIs}
@@ -45,9 +45,9 @@ Kept b n m f out now = (out ≡ spelled (sheet_at b n m f) now) × ((t : Slot) �
 abbrev pub Went : (b : List ℕ) (n m f : ℕ) → Values → List (Event Slot ℕ) → List ℕ → Annotated → Type 0
 Went b n m f now es out Done =
     (later : Values) × Kept b n m f out later × ((more : List (Event Slot ℕ))
-    → folded (slots_of (recordsOf (sheet_at b n m f))) now (es ++ more) ≡ folded (slots_of (recordsOf (sheet_at b n m f))) later more)
+    → folded (slots_of (records_of (sheet_at b n m f))) now (es ++ more) ≡ folded (slots_of (records_of (sheet_at b n m f))) later more)
 Went b n m f now es out (Refused k q) =
-    (more : List (Event Slot ℕ)) → folded (slots_of (recordsOf (sheet_at b n m f))) now (es ++ more) ≡ refused k q
+    (more : List (Event Slot ℕ)) → folded (slots_of (records_of (sheet_at b n m f))) now (es ++ more) ≡ refused k q
 
 -- no entry, for a place behind the last
 abbrev pub no_item : Item
@@ -55,7 +55,7 @@ no_item = record { head = no_head; values = [] }
 
 -- the events of a cell's entries
 unfoldable pub entry_events : (b text : List ℕ) (slash : Bool) (n m f : ℕ) → Cell ℕ → List Item → List (Event Slot ℕ)
-entry_events b text slash n m f c is = map (entry_event (recordsOf (sheet_at b n m f)) c) (map (entry_of (λ p. p) text slash) is)
+entry_events b text slash n m f c is = map (entry_event (records_of (sheet_at b n m f)) c) (map (entry_of (λ p. p) text slash) is)
 
 -- `count` entries from number `first` on stand in the table
 abbrev pub EntriesAre : List ℕ → ℕ → ℕ → List Item → Type 0

@@ -11,7 +11,7 @@ use Rattle.sheetlaws.specs.Sheet as bytes
 use Rattle.history.specs.Events.{Answer, sheet, refused}
 use Rattle.history.specs.Sheet.{Slot, Cell}
 use Rattle.history.specs.Sheet as history
-use Rattle.slots.specs.Slots.{recordsOf, values_of, spelled}
+use Rattle.slots.specs.Slots.{records_of, values_of, spelled}
 use Rattle.applying.specs.Says.{cells_of}
 use Rattle.meaning.specs.declared.Annotated.{Annotated}
 use Rattle.meaning.specs.declared.Annotated.TheVariants.{Done, Refused}
@@ -28,7 +28,7 @@ pub data Course : Type 0 where
   judged : Sheet → At → Answer Slot ℕ → Course
 
 abbrev pub by_text : List ℕ → Sheet → Res At → Course
-by_text text s (fine st) = judged s st (history.annotate (recordsOf s) (values_of s) (said text st))
+by_text text s (fine st) = judged s st (history.annotate (records_of s) (values_of s) (said text st))
 by_text text s (bad n q) = unread n q
 
 abbrev pub by_sheet : List ℕ → List ℕ → ℕ → Res At → Decoded → Course

@@ -13,7 +13,7 @@ use Rattle.history.specs.Scan.{own_fault}
 use Rattle.history.specs.Sheet.{Slot, Cell, entry_event, events}
 use Rattle.applying.specs.Says.{entry_of, cell_of}
 use Rattle.applying.specs.Rows.{CellIs}
-use Rattle.applying.specs.Instances.{recordsAt}
+use Rattle.applying.specs.Instances.{records_at}
 use Rattle.meaning.specs.declared.Whom.{Whom}
 use Rattle.meaning.specs.declared.Whom.TheVariants.{Nobody}
 use Rattle.meaning.specs.Entries.{EntriesAre}
@@ -35,10 +35,10 @@ module _ (b : List ℕ) (n m f : ℕ) (incoming : List ℕ) (slash : Bool) where
   OwnEntries t count whom type event r =
       Bytes b → check_of b ≡ Good n m f → (c : Cell Where) (is : List Item) → EntriesAre t 0 count is → c.type ≡ type → Of b n m f whom c
       → ((x : ℕ) → whom ≡ Nobody x → ⊥)
-      → FaultIn (map (entry_event (recordsAt b n m f) c) (map (entry_of (at true) incoming slash) is)) event r
+      → FaultIn (map (entry_event (records_at b n m f) c) (map (entry_of (at true) incoming slash) is)) event r
 
   -- and the whole cell: 12 and 13 first
   abbrev pub OwnIs : (cells entries : List ℕ) (event : ℕ) → Least → Type 0
   OwnIs cells entries event r =
       Bytes b → check_of b ≡ Good n m f → (cell : read.Cell) (is : List Item) → CellIs cells 0 cell → cell.sort < 256 → EntriesAre entries 0 cell.entries is
-      → FaultIn (events (recordsAt b n m f) (cell_of (at true) incoming slash cell is)) event r
+      → FaultIn (events (records_at b n m f) (cell_of (at true) incoming slash cell is)) event r

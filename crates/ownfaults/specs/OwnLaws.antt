@@ -32,7 +32,7 @@ use Rattle.slots.specs.Shapes.{values_in_range}
 use Rattle.applying.specs.Says.{entry_of, cell_of, part_at, name_at}
 use Rattle.applying.specs.Judged.{refusal_of}
 use Rattle.applying.specs.Rows.{EntryIs, cell-is, head_is, item-expanded}
-use Rattle.applying.specs.Instances.{recordsAt}
+use Rattle.applying.specs.Instances.{records_at}
 use Rattle.applying.specs.Addressed.{cell_same, cell-every}
 use Rattle.applying.specs.Steps.{one-judged, every-judged}
 use Rattle.meaning.specs.declared.Whom.{Whom}
@@ -60,7 +60,7 @@ module _ (b : List ℕ) (bytes : Bytes b) (n m f : ℕ) (good : check_of b ≡ G
   judged_own : (t : List ℕ) (row : ℕ) (i : Item) → EntryIs t row i → SoundItem i → (c : Cell Where) (whom : Whom) → Of b n m f whom c
       → ((x : ℕ) → whom ≡ Nobody x → ⊥) → (out : List ℕ) → out ≡ spelled (sheet_at b n m f) (values_of (sheet_at b n m f))
       → refusal_for b incoming slash n m f t row whom c.type out
-      ≡ refusal_of (recordsAt b n m f) c (entry_of (at true) incoming slash i) (values_of (sheet_at b n m f))
+      ≡ refusal_of (records_at b n m f) c (entry_of (at true) incoming slash i) (values_of (sheet_at b n m f))
   unfolding refusal_for rows_at
   judged_own t row i r s c (One p) w h out k =
       rw (head_is t row i r s, k, w.2) (one-judged b bytes n m f good incoming slash (at true) i _ (item-expanded (at true) incoming slash t row i r s) c
@@ -72,9 +72,9 @@ module _ (b : List ℕ) (bytes : Bytes b) (n m f : ℕ) (good : check_of b ≡ G
 
   entry-lacks : (t : List ℕ) (row : ℕ) (i : Item) → EntryIs t row i → SoundItem i → (c : Cell Where) (whom : Whom) → Of b n m f whom c
       → ((x : ℕ) → whom ≡ Nobody x → ⊥) → (x : ℕ) → x ≡ refusal_for b incoming slash n m f t row whom c.type b
-      → lacks (recordsAt b n m f) c (entry_of (at true) incoming slash i) ≡ eqb x 14
+      → lacks (records_at b n m f) c (entry_of (at true) incoming slash i) ≡ eqb x 14
   entry-lacks t row i r s c whom w h x e =
-      sym (refused_lacks (recordsAt b n m f) c (entry_of (at true) incoming slash i) (values_of (sheet_at b n m f)))
+      sym (refused_lacks (records_at b n m f) c (entry_of (at true) incoming slash i) (values_of (sheet_at b n m f)))
       ∙ ap (λ z. eqb z 14) (sym (e ∙ judged_own t row i r s c whom w h b (sym (start b bytes n m f good))))
 
 -- 2. The loop over the entries
@@ -97,7 +97,7 @@ module _ (b : List ℕ) (n m f : ℕ) (incoming : List ℕ) (slash : Bool) (t : 
   OwnSoFar k =
       Bytes b → check_of b ≡ Good n m f → (c : Cell Where) (is : List Item) → EntriesAre t 0 count is → c.type ≡ type → Of b n m f whom c
       → ((x : ℕ) → whom ≡ Nobody x → ⊥) → (i : ℕ) → i < k
-      → lacks (recordsAt b n m f) c (entry_of (at true) incoming slash (get_or is i no_item)) ≡ false
+      → lacks (records_at b n m f) c (entry_of (at true) incoming slash (get_or is i no_item)) ≡ false
 
   pub own_none : OwnSoFar 0
   own_none bytes good c is a ty w h i l = absurd (omega arith)
@@ -106,7 +106,7 @@ module _ (b : List ℕ) (n m f : ℕ) (incoming : List ℕ) (slash : Bool) (t : 
   own_at : (k x : ℕ) → k < count → x ≡ refusal_for b incoming slash n m f t (28 * k) whom type b
       → Bytes b → check_of b ≡ Good n m f → (c : Cell Where) (is : List Item) → EntriesAre t 0 count is → c.type ≡ type → Of b n m f whom c
       → ((x : ℕ) → whom ≡ Nobody x → ⊥)
-      → lacks (recordsAt b n m f) c (entry_of (at true) incoming slash (get_or is k no_item)) ≡ eqb x 14
+      → lacks (records_at b n m f) c (entry_of (at true) incoming slash (get_or is k no_item)) ≡ eqb x 14
   own_at k x d e bytes good c is a ty w h =
       let l : k < length is = rw a.0 d in
       entry-lacks b bytes n m f good incoming slash t (28 * k) (get_or is k no_item) (rw (zero-add k) at (a.1 k d)) (each_at SoundItem is no_item a.2 k l) c whom w
@@ -115,7 +115,7 @@ module _ (b : List ℕ) (n m f : ℕ) (incoming : List ℕ) (slash : Bool) (t : 
   pub own_more : (k x : ℕ) → k < count → OwnSoFar k → x ≡ refusal_for b incoming slash n m f t (28 * k) whom type b → (x ≡ 14 → ⊥) → OwnSoFar (suc k)
   own_more k x d so e y bytes good c is a ty w h i l = by (eqb i k) refl
     where
-      by : (z : Bool) → eqb i k ≡ z → lacks (recordsAt b n m f) c (entry_of (at true) incoming slash (get_or is i no_item)) ≡ false
+      by : (z : Bool) → eqb i k ≡ z → lacks (records_at b n m f) c (entry_of (at true) incoming slash (get_or is i no_item)) ≡ false
       by true p = rw (eqb-true i k p) (own_at k x d e bytes good c is a ty w h ∙ ne_eqb x 14 y)
       by false p = let q : i < k = below i k l p in so bytes good c is a ty w h i q
         where
@@ -129,13 +129,13 @@ module _ (b : List ℕ) (n m f : ℕ) (incoming : List ℕ) (slash : Bool) (t : 
 
   -- the events of the entries
   abbrev row_events : Cell Where → List Item → List (Event Slot Where)
-  row_events c is = map (entry_event (recordsAt b n m f) c) (map (entry_of (at true) incoming slash) is)
+  row_events c is = map (entry_event (records_at b n m f) c) (map (entry_of (at true) incoming slash) is)
 
   row_event : (c : Cell Where) (is : List Item) (k : ℕ) → k < length is
-      → get_elem? (row_events c is) k ≡ some (entry_event (recordsAt b n m f) c (entry_of (at true) incoming slash (get_or is k no_item)))
+      → get_elem? (row_events c is) k ≡ some (entry_event (records_at b n m f) c (entry_of (at true) incoming slash (get_or is k no_item)))
   row_event c is k l =
       let z = length-map is (entry_of (at true) incoming slash) in
-      there_made (entry_event (recordsAt b n m f) c) (map (entry_of (at true) incoming slash) is) k (entry_of (at true) incoming slash no_item) (omega arith)
+      there_made (entry_event (records_at b n m f) c) (map (entry_of (at true) incoming slash) is) k (entry_of (at true) incoming slash no_item) (omega arith)
       ∙ rw (get_d_made (entry_of (at true) incoming slash) is k no_item)
 
   pub own_stop : (k x : ℕ) → k < count → OwnSoFar k → x ≡ refusal_for b incoming slash n m f t (28 * k) whom type b → x ≡ 14
@@ -146,9 +146,9 @@ module _ (b : List ℕ) (n m f : ℕ) (incoming : List ℕ) (slash : Bool) (t : 
       let z = length-map is (entry_of (at true) incoming slash) in (
         k,
         refl,
-        own_numbers-some (recordsAt b n m f) c (map (entry_of (at true) incoming slash) is) (entry_of (at true) incoming slash no_item) k (omega arith)
-            (λ i q. ap (lacks (recordsAt b n m f) c) (get_d_made (entry_of (at true) incoming slash) is i no_item) ∙ so bytes good c is a ty w h i q)
-            (ap (lacks (recordsAt b n m f) c) (get_d_made (entry_of (at true) incoming slash) is k no_item) ∙ own_at k x d e bytes good c is a ty w h ∙ eq-eqb x 14 y),
+        own_numbers-some (records_at b n m f) c (map (entry_of (at true) incoming slash) is) (entry_of (at true) incoming slash no_item) k (omega arith)
+            (λ i q. ap (lacks (records_at b n m f) c) (get_d_made (entry_of (at true) incoming slash) is i no_item) ∙ so bytes good c is a ty w h i q)
+            (ap (lacks (records_at b n m f) c) (get_d_made (entry_of (at true) incoming slash) is k no_item) ∙ own_at k x d e bytes good c is a ty w h ∙ eq-eqb x 14 y),
         (_, row_event c is k l, rw (place_at is a k d)),
       )
 
@@ -156,31 +156,31 @@ module _ (b : List ℕ) (n m f : ℕ) (incoming : List ℕ) (slash : Bool) (t : 
   own_end so bytes good c is a ty w h =
       let z = length-map is (entry_of (at true) incoming slash) in
       let s = a.0 in
-      own_numbers-none (recordsAt b n m f) c (map (entry_of (at true) incoming slash) is) (entry_of (at true) incoming slash no_item)
-      (λ i q. ap (lacks (recordsAt b n m f) c) (get_d_made (entry_of (at true) incoming slash) is i no_item) ∙ so bytes good c is a ty w h i (omega arith))
+      own_numbers-none (records_at b n m f) c (map (entry_of (at true) incoming slash) is) (entry_of (at true) incoming slash no_item)
+      (λ i q. ap (lacks (records_at b n m f) c) (get_d_made (entry_of (at true) incoming slash) is i no_item) ∙ so bytes good c is a ty w h i (omega arith))
 
 -- 3. The cell
 
 module _ (b : List ℕ) (bytes : Bytes b) (n m f : ℕ) (good : check_of b ≡ Good n m f) where
   found_none : (path : List ℕ) (c : Cell Where) → c.part ≡ part.at path → (o : Found) → find_instance b path n 12 ≡ o
-      → ((x : ℕ) → typed_as b c.type o ≡ Nobody x → ⊥) → cell_number (recordsAt b n m f) c ≡ none
+      → ((x : ℕ) → typed_as b c.type o ≡ Nobody x → ⊥) → cell_number (records_at b n m f) c ≡ none
   unfolding typed_as
   found_none path c p Nothing e h = absurd (h 12 refl)
   found_none path c p (At q) e h = go (same_text (type_at b q) c.type) refl h
     where
-      go : (t : Bool) → same_text (type_at b q) c.type ≡ t → ((x : ℕ) → pick t (One q) (Nobody 13) ≡ Nobody x → ⊥) → cell_number (recordsAt b n m f) c ≡ none
+      go : (t : Bool) → same_text (type_at b q) c.type ≡ t → ((x : ℕ) → pick t (One q) (Nobody 13) ≡ Nobody x → ⊥) → cell_number (records_at b n m f) c ≡ none
       go true d h = cell_same b bytes n m f good c path q p e d
       go false d h = absurd (h 13 refl)
 
   -- a cell that applies to somebody has neither 12 nor 13
   somebody : (text : List ℕ) (slash side : Bool) (cell : read.Cell) (is : List Item) → ((x : ℕ) → whom_of b text slash n cell ≡ Nobody x → ⊥)
-      → cell_number (recordsAt b n m f) (cell_of (at side) text slash cell is) ≡ none
+      → cell_number (records_at b n m f) (cell_of (at side) text slash cell is) ≡ none
   unfolding whom_of cell_of part_at name_at
   somebody text slash side cell is h = go (eqb cell.sort 2) refl h
     where
       go : (t : Bool) → eqb cell.sort 2 ≡ t
           → ((x : ℕ) → pick t Every (typed_as b (part_of text cell.typefrom cell.typeto) (find_instance b (canon slash (part_of text cell.pathfrom cell.pathto)) n 12))
-          ≡ Nobody x → ⊥) → cell_number (recordsAt b n m f) (cell_of (at side) text slash cell is) ≡ none
+          ≡ Nobody x → ⊥) → cell_number (records_at b n m f) (cell_of (at side) text slash cell is) ≡ none
       go true e h = cell-every b bytes n m f good (cell_of (at side) text slash cell is) (rw e)
       go false e h = found_none (canon slash (part_of text cell.pathfrom cell.pathto)) (cell_of (at side) text slash cell is) (rw e) _ refl h
 
@@ -201,9 +201,9 @@ module _ (b : List ℕ) (n m f : ℕ) (incoming : List ℕ) (slash : Bool) (cell
   own_refused x e bytes good cell is r s a =
       let c = cell_of (at true) incoming slash cell is in
       let v = cell-is cells 0 cell r s in
-      let o : cell_number (recordsAt b n m f) c ≡ some x
+      let o : cell_number (records_at b n m f) c ≡ some x
       = subst (λ (w : Whom). Of b n m f w c) (rw v at e) (whom_of_lem b bytes n m f good incoming slash true cell is) in
-      (0, sym (add-zero event), own_cell-some (recordsAt b n m f) c x o, (cell_event (recordsAt b n m f) c, refl, rw v))
+      (0, sym (add-zero event), own_cell-some (records_at b n m f) c x o, (cell_event (records_at b n m f) c, refl, rw v))
 
   -- and else its entries
   pub own_listed : (whom : Whom) (r : Least) → whom_of b incoming slash n (cell_at cells 0) ≡ whom → ((x : ℕ) → whom ≡ Nobody x → ⊥)
@@ -215,8 +215,8 @@ module _ (b : List ℕ) (n m f : ℕ) (incoming : List ℕ) (slash : Bool) (cell
       let v = cell-is cells 0 cell x s in
       let u : whom_of b incoming slash n cell ≡ whom = rw v at e in
       let w : Of b n m f whom c = subst (λ (w : Whom). Of b n m f w c) u (whom_of_lem b bytes n m f good incoming slash true cell is) in
-      let o : cell_number (recordsAt b n m f) c ≡ none = somebody b bytes n m f good incoming slash true cell is (λ y q. h y (sym u ∙ q)) in
-      later_in (cell_event (recordsAt b n m f) c) _ event r (own_cell-none (recordsAt b n m f) c o) ((rw v at run) bytes good c is a refl w h)
+      let o : cell_number (records_at b n m f) c ≡ none = somebody b bytes n m f good incoming slash true cell is (λ y q. h y (sym u ∙ q)) in
+      later_in (cell_event (records_at b n m f) c) _ event r (own_cell-none (records_at b n m f) c o) ((rw v at run) bytes good c is a refl w h)
 
 -- 4. Its place in the new file
 
@@ -228,20 +228,20 @@ unfolding shifted
 own_least b n m f file incoming slash {cells = cells} {entries = entries} {cells2 = cells2} {entries2 = entries2} {count = count} {k = k} before r e own bytes good g =
     by r (own bytes good g.cell2 g.is2 g.cell_is g.sort2 g.entries_are2)
   where
-    cut_at : length (file_events (recordsAt b n m f) (parts b n m f file incoming slash g).before) ≡ k + before
+    cut_at : length (file_events (records_at b n m f) (parts b n m f file incoming slash g).before) ≡ k + before
     cut_at =
         let c = g.cells_are_of in
         let l = g.there in
         let u : k ≤ length g.cs = rw c.0 (omega arith) in
-        length-file (recordsAt b n m f) (at false) file slash g.cs g.is k u (sym g.entries_are.0)
+        length-file (records_at b n m f) (at false) file slash g.cs g.is k u (sym g.entries_are.0)
         ∙ ap (λ z. k + z) (sym (e ∙ before-is cells count g.cs c k (omega arith)))
 
-    by : (r : Least) → FaultIn (events (recordsAt b n m f) (comer b n m f file incoming slash g)) (k + before) r
+    by : (r : Least) → FaultIn (events (records_at b n m f) (comer b n m f file incoming slash g)) (k + before) r
         → LeastIs b n m f file incoming slash g (own_fault (news b n m f file incoming slash g)) r
-    by least.Nothing h = own_new (recordsAt b n m f) (parts b n m f file incoming slash g) (comer b n m f file incoming slash g) ∙ rw h
+    by least.Nothing h = own_new (records_at b n m f) (parts b n m f file incoming slash g) (comer b n m f file incoming slash g) ∙ rw h
     by (least.Fault ev x q s) h =
-        let w = word_own (recordsAt b n m f) (parts b n m f file incoming slash g) (comer b n m f file incoming slash g) h.0 h.3.0 h.3.1 in
+        let w = word_own (records_at b n m f) (parts b n m f file incoming slash g) (comer b n m f file incoming slash g) h.0 h.3.0 h.3.1 in
         let y = rw cut_at at w.1 in (
-          own_new (recordsAt b n m f) (parts b n m f file incoming slash g) (comer b n m f file incoming slash g) ∙ rw (h.2, cut_at, h.1),
+          own_new (records_at b n m f) (parts b n m f file incoming slash g) (comer b n m f file incoming slash g) ∙ rw (h.2, cut_at, h.1),
           (w.0, ap (get_elem? (news b n m f file incoming slash g)) h.1 ∙ y, w.2 ∙ h.3.2),
         )

@@ -43,7 +43,7 @@ use Rattle.history.specs.Scan.{own_fault, word_answer, fault_answer, scan}
 use Rattle.history.specs.BySlots.{new_events, patch-by-slots}
 use Rattle.history.specs.Places.{renamed_entry, renamed_cell, renamed_answer, renamed-annotate}
 use Rattle.history.specs.Demands.{demand_3}
-use Rattle.slots.specs.Slots.{meant, numeral, word_of, slot_number, slot_at, same_slot, put, arc_values, recordsOf, values_of, spelled, sheet_at}
+use Rattle.slots.specs.Slots.{meant, numeral, word_of, slot_number, slot_at, same_slot, put, arc_values, records_of, values_of, spelled, sheet_at}
 use Rattle.slots.specs.Numbers.{slot_number_lem, slot_at_lem, slot_below, word_time, value-fits, numeral-meant}
 use Rattle.slots.specs.Numbers as numbers
 use Rattle.slots.specs.Arcs.{arc_of_lem}
@@ -51,7 +51,7 @@ use Rattle.slots.specs.Current.{current_spelled}
 use Rattle.slots.specs.Shapes.{values_in_range}
 use Rattle.slots.specs.Spelled.{start, length-spelled, room, spelled_same, word_set}
 use Rattle.applying.specs.Says.{name_at, entry_of, part_at, cell_of, cells_of}
-use Rattle.applying.specs.Instances.{recordsAt}
+use Rattle.applying.specs.Instances.{records_at}
 use Rattle.meaning.specs.Meaning as annotating
 use Rattle.meaning.specs.CellList.{each_take, each-drop}
 use Rattle.patching.specs.Where.{Where, at}
@@ -296,27 +296,27 @@ module _ (b : List ℕ) (all-bytes : Bytes b) (n m f : ℕ) (good : check_of b �
     Gives e = Fits (e.gives t)
 
     entries_fit : (c : Cell Where) (is : List Item) → Each SoundItem is
-        → Each Gives (map (entry_event (recordsAt b n m f) c) (map (entry_of (at side) text slash) is))
+        → Each Gives (map (entry_event (records_at b n m f) c) (map (entry_of (at side) text slash) is))
     entries_fit c [] s = tt
     entries_fit c (i ∷ is) s = (gives_fits b all-bytes n m f good text slash side t.arc h c i s.0 t, entries_fit c is s.1)
 
     file-fits : (cs : List read.Cell) (is : List Item) → Each SoundItem is
-        → Each Gives (file_events (recordsAt b n m f) (cells_of (at side) text slash cs is))
+        → Each Gives (file_events (records_at b n m f) (cells_of (at side) text slash cs is))
     unfolding file_events each events cell_event cells_of cell_of
     file-fits [] is s = tt
     file-fits (c ∷ cs) is s =
         let one = cell_of (at side) text slash c (take c.entries is) in
-        each_append Gives (events (recordsAt b n m f) one) (file_events (recordsAt b n m f) (cells_of (at side) text slash cs (drop c.entries is)))
+        each_append Gives (events (records_at b n m f) one) (file_events (records_at b n m f) (cells_of (at side) text slash cs (drop c.entries is)))
         (tt, entries_fit one (take c.entries is) (each_take SoundItem is s c.entries))
         (file-fits cs (drop c.entries is) (each-drop SoundItem is s c.entries))
 
   pub left_in_range : (cs : List read.Cell) (is : List Item) → Each SoundItem is → (v : Values)
-      → history.annotate (recordsAt b n m f) (values_of (sheet_at b n m f)) (cells_of (at side) text slash cs is) ≡ sheet v
+      → history.annotate (records_at b n m f) (values_of (sheet_at b n m f)) (cells_of (at side) text slash cs is) ≡ sheet v
       → (t : Slot) → t.arc < m → InRange (v t)
   left_in_range cs is s v e t h =
-      history_in_range (file_events (recordsAt b n m f) (cells_of (at side) text slash cs is)) t (values_of (sheet_at b n m f) t) (v t)
+      history_in_range (file_events (records_at b n m f) (cells_of (at side) text slash cs is)) t (values_of (sheet_at b n m f) t) (v t)
       (each-mem (λ (x : Event Slot Where). Fits (x.gives t)) _ (file-fits t h cs is s)) (values_in_range b all-bytes n m f good t)
-      (((annotate_exactly (recordsAt b n m f) (values_of (sheet_at b n m f)) v (cells_of (at side) text slash cs is)).0 e).1 t)
+      (((annotate_exactly (records_at b n m f) (values_of (sheet_at b n m f)) v (cells_of (at side) text slash cs is)).0 e).1 t)
 
 -- 4. What annotating was told, and what it said
 
@@ -345,7 +345,7 @@ pub record Accepted (start file : List ℕ) (cr ir : ℕ) (s : Sheet) (st : At) 
   pub good : check_of start ≡ Good n m f
   pub sheet_is : s ≡ sheet_at start n m f
   pub read : read_file cr ir file ≡ fine st
-  pub gave : history.annotate (recordsOf s) (values_of s) (annotating.said file st) ≡ sheet v
+  pub gave : history.annotate (records_of s) (values_of s) (annotating.said file st) ≡ sheet v
 
 pub accepted : (start file : List ℕ) (cr ir long : ℕ) (s : Sheet) (st : At) (v : Values)
     → annotating.course start file cr ir long ≡ annotating.judged s st (sheet v)
@@ -363,7 +363,7 @@ accepted start file cr ir long s st v e = go (check_of start) refl (eqb long (le
         let w = rw (c, q, d) at e in
         let x : sheet_at start n m f ≡ s = cc in
         let y : st' ≡ st = cc in
-        let a : history.annotate (recordsOf (sheet_at start n m f)) (values_of (sheet_at start n m f)) (annotating.said file st') ≡ sheet v = cc in
+        let a : history.annotate (records_of (sheet_at start n m f)) (values_of (sheet_at start n m f)) (annotating.said file st') ≡ sheet v = cc in
         (n, m, f, record { good = c; sheet_is = sym x; read = rw (← y) d; gave = rw (← x, ← y) a })
 
 -- 5. Demand 3
@@ -399,26 +399,26 @@ pub record Annotates (start file : List ℕ) (number : ℕ) (incoming current : 
   -- the answer: accepted, or the same number at the same word
   pub says :
       answer_of c
-      ≡ says_of (history.annotate (recordsAt start n m f) (values_of (sheet_at start n m f)) (swapped split (first_cell (said true incoming st2))))
+      ≡ says_of (history.annotate (records_at start n m f) (values_of (sheet_at start n m f)) (swapped split (first_cell (said true incoming st2))))
   -- the sheet, byte by byte; 'A refused patch keeps the current sheet.'
   pub leaves :
       current_of start current c
       ≡ sheet_of start current n m f
-      (history.annotate (recordsAt start n m f) (values_of (sheet_at start n m f)) (swapped split (first_cell (said true incoming st2))))
+      (history.annotate (records_at start n m f) (values_of (sheet_at start n m f)) (swapped split (first_cell (said true incoming st2))))
   -- the same for a new file with its own places: g says where in it a word stands
   pub places : {Place : Type 0} (g : Where → Place)
-      → history.annotate (recordsAt start n m f) (values_of (sheet_at start n m f)) (map (renamed_cell g) (swapped split (first_cell (said true incoming st2))))
-      ≡ renamed_answer g (history.annotate (recordsAt start n m f) (values_of (sheet_at start n m f)) (swapped split (first_cell (said true incoming st2))))
+      → history.annotate (records_at start n m f) (values_of (sheet_at start n m f)) (map (renamed_cell g) (swapped split (first_cell (said true incoming st2))))
+      ≡ renamed_answer g (history.annotate (records_at start n m f) (values_of (sheet_at start n m f)) (swapped split (first_cell (said true incoming st2))))
   -- 'all else stays': no byte changes but those of values that the outgoing or the incoming cell supplies
   pub outside : (k : ℕ)
       → ((t : Slot) → t.arc < m
-      → affected (events (recordsAt start n m f) split.one) (events (recordsAt start n m f) (first_cell (said true incoming st2))) t ≡ true
+      → affected (events (records_at start n m f) split.one) (events (records_at start n m f) (first_cell (said true incoming st2))) t ≡ true
       → Away start f k t)
       → get_or (current_of start current c) k 0 ≡ get_or current k 0
 
 module _ (start file : List ℕ) (number : ℕ) (incoming current : List ℕ) (cr ir cr2 ir2 : ℕ) (all-bytes : Bytes start) (also : Bytes current) where
   module _ (n m f : ℕ) (good : check_of start ≡ Good n m f) (st : At) (v : Values) (read : read_file cr ir file ≡ fine st)
-      (gave : history.annotate (recordsAt start n m f) (values_of (sheet_at start n m f)) (annotating.said file st) ≡ sheet v)
+      (gave : history.annotate (records_at start n m f) (values_of (sheet_at start n m f)) (annotating.said file st) ≡ sheet v)
       (now : current ≡ spelled (sheet_at start n m f) v) (low : 1 ≤ number) (high : number ≤ length st.book.log.cells) (st2 : At)
       (read2 : read_cell_of st.book.slash st.book.unit cr2 ir2 incoming ≡ fine st2) where
     comer : Cell Where
@@ -426,7 +426,7 @@ module _ (start file : List ℕ) (number : ℕ) (incoming current : List ℕ) (c
 
     -- what patching decides on
     decided : Values → Answer Slot Where
-    decided x = history.patch (recordsAt start n m f) (values_of (sheet_at start n m f)) (said false file st) number (at false 0) comer x
+    decided x = history.patch (records_at start n m f) (values_of (sheet_at start n m f)) (said false file st) number (at false 0) comer x
 
     course-is : course start file number incoming current cr ir cr2 ir2 ≡ judged n m f st st2 (decided (values_of (sheet_at current n m f)))
     unfolding course decided comer
@@ -444,11 +444,11 @@ module _ (start file : List ℕ) (number : ℕ) (incoming current : List ℕ) (c
         )
 
     -- the same with the words of a patch
-    gave_here : history.annotate (recordsAt start n m f) (values_of (sheet_at start n m f)) (said false file st) ≡ sheet v
+    gave_here : history.annotate (records_at start n m f) (values_of (sheet_at start n m f)) (said false file st) ≡ sheet v
     unfolding renamed_answer
     gave_here =
         rw (said-renamed false file st)
-        (renamed-annotate (at false) (recordsAt start n m f) (values_of (sheet_at start n m f)) (annotating.said file st) ∙ ap (renamed_answer (at false)) gave)
+        (renamed-annotate (at false) (records_at start n m f) (values_of (sheet_at start n m f)) (annotating.said file st) ∙ ap (renamed_answer (at false)) gave)
 
     in_range : (t : Slot) → t.arc < m → InRange (v t)
     unfolding said
@@ -478,10 +478,10 @@ module _ (start file : List ℕ) (number : ℕ) (incoming current : List ℕ) (c
         (ap says_of (by here) ∙ o.0 ∙ sym (ap says_of (by v)), ap (sheet_of start current n m f) (by here) ∙ o.1 ∙ sym (ap (sheet_of start current n m f) (by v)))
       where
         news : List (Event Slot Where)
-        news = new_events (recordsAt start n m f) p comer
+        news = new_events (records_at start n m f) p comer
 
         touched : Slot → Bool
-        touched = affected (events (recordsAt start n m f) p.one) (events (recordsAt start n m f) comer)
+        touched = affected (events (records_at start n m f) p.one) (events (records_at start n m f) comer)
 
         made : Slot → Value
         made t = final (history (holds (values_of (sheet_at start n m f) t)) news t)
@@ -490,16 +490,16 @@ module _ (start file : List ℕ) (number : ℕ) (incoming current : List ℕ) (c
         written x t = pick (touched t) (made t) (x t)
 
         fault : Option Fault
-        fault = scan touched (values_of (sheet_at start n m f)) news (own_fault news) (slots_of (recordsAt start n m f))
+        fault = scan touched (values_of (sheet_at start n m f)) news (own_fault news) (slots_of (records_at start n m f))
 
         by : (x : Values) → decided x ≡ fault_answer news (written x) fault
-        by x = patch-by-slots (recordsAt start n m f) (values_of (sheet_at start n m f)) (said false file st) number (at false 0) comer x p e
+        by x = patch-by-slots (records_at start n m f) (values_of (sheet_at start n m f)) (said false file st) number (at false 0) comer x p e
 
     whole : (p : Cut (Cell Where)) → cut (said false file st) number ≡ some p
         → Annotates start file number incoming current n m f st st2 (course start file number incoming current cr ir cr2 ir2)
     unfolding answer_of current_of decided comer left
     whole p e =
-        let records = recordsAt start n m f in
+        let records = records_at start n m f in
         let values = values_of (sheet_at start n m f) in
         let d = demand_3 records values (said false file st) number (at false 0) comer v p gave_here e in
         let says_is = ap answer_of course-is ∙ (same_end p e).0 in
@@ -514,17 +514,17 @@ module _ (start file : List ℕ) (number : ℕ) (incoming current : List ℕ) (c
         }
       where
         kept : (k : ℕ) (p : Cut (Cell Where))
-            → ((t : Slot) → t.arc < m → affected (events (recordsAt start n m f) p.one) (events (recordsAt start n m f) comer) t ≡ true → Away start f k t)
+            → ((t : Slot) → t.arc < m → affected (events (records_at start n m f) p.one) (events (records_at start n m f) comer) t ≡ true → Away start f k t)
             → (a : Answer Slot Where)
-            → ((t : Slot) → affected (events (recordsAt start n m f) p.one) (events (recordsAt start n m f) comer) t ≡ false → left v a t ≡ v t)
+            → ((t : Slot) → affected (events (records_at start n m f) p.one) (events (records_at start n m f) comer) t ≡ false → left v a t ≡ v t)
             → get_or (sheet_of start current n m f a) k 0 ≡ get_or current k 0
         kept k p h (refused x w) o = refl
         kept k p h (sheet w) o =
             byte_kept start all-bytes n m f good v w k
-            (λ t l. by t l (affected (events (recordsAt start n m f) p.one) (events (recordsAt start n m f) comer) t) refl)
+            (λ t l. by t l (affected (events (records_at start n m f) p.one) (events (records_at start n m f) comer) t) refl)
             ∙ ap (λ (d : List ℕ). get_or d k 0) (sym now)
           where
-            by : (t : Slot) → t.arc < m → (x : Bool) → affected (events (recordsAt start n m f) p.one) (events (recordsAt start n m f) comer) t ≡ x
+            by : (t : Slot) → t.arc < m → (x : Bool) → affected (events (records_at start n m f) p.one) (events (records_at start n m f) comer) t ≡ x
                 → (v t ≡ w t) ⊎ Away start f k t
             by t l true q = inr (h t l q)
             by t l false q = inl (sym (o t q))

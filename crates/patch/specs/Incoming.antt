@@ -15,7 +15,7 @@ use Rattle.history.specs.Sheet as history
 use Rattle.history.specs.Sheet.{Values}
 use Rattle.slots.specs.Slots.{values_of, spelled, sheet_at}
 use Rattle.applying.specs.Says.{cells_of}
-use Rattle.applying.specs.Instances.{recordsAt}
+use Rattle.applying.specs.Instances.{records_at}
 use Rattle.meaning.specs.Entries.{EntriesAre}
 use Rattle.meaning.specs.Cells.{CellsAre}
 use Rattle.patching.specs.Where.{at}
@@ -33,9 +33,9 @@ module _ (b : List ℕ) (n m f : ℕ) (file incoming : List ℕ) (slash : Bool) 
       (r ≡ patched.Refused x q true) × (cells2' ≡ cells2) × (entries2' ≡ entries2) × (current' ≡ current)
   ByIncoming (fine st2) cs is cells2 cells2' entries2 entries2' current current' v r =
       (cells2' ≡ cells_left (fine st2) cells2) × (entries2' ≡ entries_left (fine st2) entries2)
-      × (r ≡ says_of (history.patch (recordsAt b n m f) (values_of (sheet_at b n m f)) (cells_of (at false) file slash cs is) (suc k) (at false 0)
+      × (r ≡ says_of (history.patch (records_at b n m f) (values_of (sheet_at b n m f)) (cells_of (at false) file slash cs is) (suc k) (at false 0)
       (first_cell (said true incoming st2)) v))
-      × (current' ≡ sheet_of b current n m f (history.patch (recordsAt b n m f) (values_of (sheet_at b n m f)) (cells_of (at false) file slash cs is) (suc k)
+      × (current' ≡ sheet_of b current n m f (history.patch (records_at b n m f) (values_of (sheet_at b n m f)) (cells_of (at false) file slash cs is) (suc k)
       (at false 0) (first_cell (said true incoming st2)) v))
 
   abbrev pub CellPatched : (cells2 cells2' entries2 entries2' current current' : List ℕ) → Patched → Type 0

@@ -13,7 +13,7 @@ use Rattle.sheet.specs.Same.{same_records}
 use Rattle.history.specs.Events.{Answer}
 use Rattle.history.specs.Sheet.{Slot, Cell}
 use Rattle.history.specs.Sheet as history
-use Rattle.slots.specs.Slots.{recordsOf, values_of, sheet_at}
+use Rattle.slots.specs.Slots.{records_of, values_of, sheet_at}
 use Rattle.applying.specs.Says.{cell_of, cells_of}
 use Rattle.meaning.specs.Cells.{no_cell}
 use Rattle.patching.specs.Where.{Where, at}
@@ -42,7 +42,7 @@ module _ (start file : List ℕ) (number : ℕ) (incoming current : List ℕ) wh
   -- on the sheet with n instances and m arcs from f on, of which the current one has the records
   abbrev pub by_history : (n m f : ℕ) → At → At → Answer Slot Where
   by_history n m f st st2 =
-      history.patch (recordsOf (sheet_at start n m f)) (values_of (sheet_at start n m f)) (said false file st) number (at false 0)
+      history.patch (records_of (sheet_at start n m f)) (values_of (sheet_at start n m f)) (said false file st) number (at false 0)
       (first_cell (said true incoming st2)) (values_of (sheet_at current n m f))
 
   abbrev pub by_cell : (n m f : ℕ) → At → Res At → Course

@@ -30,7 +30,7 @@ use Rattle.applying.specs.Says.{name_at, entry_of, part_at, cell_of}
 use Rattle.applying.specs.Judged.{arc_is, fails_at, refusal_of, arc_addressed}
 use Rattle.applying.specs.Bytes.{some_of, device_hit}
 use Rattle.applying.specs.Below.{bool_same, not_so, or-all, below_cong, some_any}
-use Rattle.applying.specs.Instances.{recordsAt, wants, wants-means, means-wants, arc-is, hit-is}
+use Rattle.applying.specs.Instances.{records_at, wants, wants-means, means-wants, arc-is, hit-is}
 use Rattle.applying.specs.Addressed.{place_of, one_applied, every_of}
 
 module _ (b text : List ℕ) (slash : Bool) (h : read-entry.Entry) where
@@ -101,7 +101,7 @@ module _ (b : List ℕ) (bytes : Bytes b) (n m f : ℕ) (good : check_of b ≡ G
   e = entry_of word text slash i
 
   -- what the program asks of an arc is whether the entry means it in that instance
-  pub meant_is : (p j : ℕ) → j < m → meant_in b text slash i.head p (place b j f) ≡ arc_is (recordsAt b n m f) (matches (path_at b p) e) j
+  pub meant_is : (p j : ℕ) → j < m → meant_in b text slash i.head p (place b j f) ≡ arc_is (records_at b n m f) (matches (path_at b p) e) j
   unfolding meant_in
   meant_is p j h = go (eqb i.head.kind 4) refl
     where
@@ -115,28 +115,28 @@ module _ (b : List ℕ) (bytes : Bytes b) (n m f : ℕ) (good : check_of b ≡ G
       go : (t : Bool) → eqb i.head.kind 4 ≡ t
           → pick t (device_hit b text slash i.head p (place b j f))
           (eqb (cmp_key (key_at b (place b j f)) (wants text slash word i (path_at b p))) 1)
-          ≡ arc_is (recordsAt b n m f) (matches (path_at b p) e) j
+          ≡ arc_is (records_at b n m f) (matches (path_at b p) e) j
       go true d = hit-is b bytes n m f good text slash word i [] p j h d
       go false d = key-is d ∙ sym (arc-is b bytes n m f good (matches (path_at b p) e) j h)
 
   module _ (c : Cell Word) where
     -- a cell with the path of instance number k and its type means what it means there
     pub meant-one : (k : ℕ) → k < n → c.part ≡ at (path_at b (place_of b k)) → same_text (type_at b (place_of b k)) c.type ≡ true → (j : ℕ) → j < m
-        → meant_in b text slash i.head (place_of b k) (place b j f) ≡ arc_is (recordsAt b n m f) (addresses (recordsAt b n m f) c e) j
+        → meant_in b text slash i.head (place_of b k) (place b j f) ≡ arc_is (records_at b n m f) (addresses (records_at b n m f) c e) j
     meant-one k l p d j h =
-        meant_is (place_of b k) j h ∙ sym (one_applied b bytes n m f good c k l p d e j) ∙ sym (arc_addressed (recordsAt b n m f) c e j)
+        meant_is (place_of b k) j h ∙ sym (one_applied b bytes n m f good c k l p d e j) ∙ sym (arc_addressed (records_at b n m f) c e j)
 
     -- `*` means what it means in some instance of its type
     pub meant-every : c.part ≡ every → (j : ℕ) → j < m
-        → meant_every b text slash i.head n c.type (place b j f) ≡ arc_is (recordsAt b n m f) (addresses (recordsAt b n m f) c e) j
+        → meant_every b text slash i.head n c.type (place b j f) ≡ arc_is (records_at b n m f) (addresses (records_at b n m f) c e) j
     unfolding meant_every
     meant-every p j h =
         some_any _ n
         ∙ below_cong (λ k. and (same_text (type_at b (place_of b k)) c.type) (meant_in b text slash i.head (place_of b k) (place b j f)))
-        (λ k. and (same_text (type_at b (place_of b k)) c.type) (arc_is (recordsAt b n m f) (matches (path_at b (place_of b k)) e) j)) n
+        (λ k. and (same_text (type_at b (place_of b k)) c.type) (arc_is (records_at b n m f) (matches (path_at b (place_of b k)) e) j)) n
         (λ k l. rw (meant_is (place_of b k) j h))
-        ∙ sym (every_of b bytes n m f good c p (λ x. arc_is (recordsAt b n m f) (matches x e) j))
-        ∙ sym (arc_addressed (recordsAt b n m f) c e j)
+        ∙ sym (every_of b bytes n m f good c p (λ x. arc_is (records_at b n m f) (matches x e) j))
+        ∙ sym (arc_addressed (records_at b n m f) c e j)
 
   -- an arc that the entry means in the instance with this path has the path as a front part of an end
   front-means : (p : List ℕ) (k : Key) → matches p e k ≡ true → or (eqb (front k.end1 p) 1) (eqb (front k.end2 p) 1) ≡ true
@@ -161,11 +161,11 @@ module _ (b : List ℕ) (bytes : Bytes b) (n m f : ℕ) (good : check_of b ≡ G
   -- so a cell with another path does not mean it
   pub may_touch_lem : (cell : read_cell.Cell) (l : List Item) → eqb cell.sort 2 ≡ false → (j : ℕ)
       → may_touch b text slash cell.pathfrom cell.pathto (place b j f) ≡ false → j < m
-      → arc_is (recordsAt b n m f) (addresses (recordsAt b n m f) (cell_of word text slash cell l) e) j ≡ false
+      → arc_is (records_at b n m f) (addresses (records_at b n m f) (cell_of word text slash cell l) e) j ≡ false
   unfolding may_touch cell_of part_at name_at applies part_is as_key
   may_touch_lem cell l s j z h =
-      arc_addressed (recordsAt b n m f) (cell_of word text slash cell l) e j
-      ∙ any_none _ (recordsAt b n m f).instances (λ y g. not_so _ (λ q. none_so y q))
+      arc_addressed (records_at b n m f) (cell_of word text slash cell l) e j
+      ∙ any_none _ (records_at b n m f).instances (λ y g. not_so _ (λ q. none_so y q))
     where
       path : List ℕ
       path = canon slash (part_of text cell.pathfrom cell.pathto)
@@ -173,7 +173,7 @@ module _ (b : List ℕ) (bytes : Bytes b) (n m f : ℕ) (good : check_of b ≡ G
       there : (y : Instance) → applies (cell_of word text slash cell l) y ≡ true → y.path ≡ path
       there y q = (name_exactly y.path path).0 (both (same_name y.path path) _ (rw s at q)).0
 
-      none_so : (y : Instance) → and (applies (cell_of word text slash cell l) y) (arc_is (recordsAt b n m f) (matches y.path e) j) ≡ true → ⊥
+      none_so : (y : Instance) → and (applies (cell_of word text slash cell l) y) (arc_is (records_at b n m f) (matches y.path e) j) ≡ true → ⊥
       none_so y q =
           let w = both (applies (cell_of word text slash cell l) y) _ q in
           clash (sym z ∙ front-means path (as_key (key_at b (place b j f)))

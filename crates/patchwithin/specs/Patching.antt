@@ -2,7 +2,7 @@
 -- Assumes nothing.
 use Rattle.std.specs.Prelude.{◌≡◌, List, ℕ, ◌≤◌}
 use Rattle.grammar.specs.declared.Cell.{Cell}
-use Rattle.readrecords.specs.Reading.{recordsLeft}
+use Rattle.readrecords.specs.Reading.{records_left}
 use Rattle.patch.specs.declared.Counted.{Counted}
 use Rattle.patch.specs.Meaning.{Course, file_table, cell_table}
 use Rattle.patch.specs.Counted.{CountedIs}
@@ -16,4 +16,4 @@ PatchWithin start c room room2 u u' t t' u2 u2' t2 t2' current current' r =
 -- 'Room after the last record is left as lent'; 'Tables of a text refused or not reached are as lent; those of a text already read keep its reading.'
 abbrev pub PatchedRecords : (start : List ℕ) (c : Course) (u u' t t' u2 u2' t2 t2' current current' : List ℕ) (rs rs' rs2 rs2' : List Cell) → Counted → Type 0
 PatchedRecords start c u u' t t' u2 u2' t2 t2' current current' rs rs' rs2 rs2' r =
-    CountedIs start c u u' t t' u2 u2' t2 t2' current current' r × (rs' ≡ file_table recordsLeft rs c) × (rs2' ≡ cell_table recordsLeft rs2 c)
+    CountedIs start c u u' t t' u2 u2' t2 t2' current current' r × (rs' ≡ file_table records_left rs c) × (rs2' ≡ cell_table records_left rs2 c)

@@ -14,8 +14,8 @@ use Rattle.sheetparts.specs.Form.{check_of}
 use Rattle.sheetparts.specs.declared.SheetCheck.{SheetCheck}
 use Rattle.sheetparts.specs.declared.SheetCheck.TheVariants as check
 use Rattle.sheet.specs.Same.{same_records}
-use Rattle.cellrecords.specs.Records.{recordsOf}
-use Rattle.readrecords.specs.Reading.{room_for, recordsLeft}
+use Rattle.cellrecords.specs.Records.{records_of}
+use Rattle.readrecords.specs.Reading.{room_for, records_left}
 use Rattle.readrecords.specs.ReadingLaws.{Sounds, left_is, fit_of, part_left}
 use Rattle.patch.specs.declared.Counted.{Counted}
 use Rattle.patch.specs.Meaning.{Course, unfit, unread, nonumber, unread_cell, judged, by_cell, by_file, by_sheet, course, file_table, cell_table}
@@ -116,27 +116,27 @@ module _ (start : List ℕ) (c : Course) (u u' t t' u2 u2' t2 t2' current curren
 -- 4. The fill
 
 -- of one text, whose reading came to o
-filled : (o : Res At) (u u' : List ℕ) (rs rs' : List Cell) (n : ℕ) → Sounds o → u' ≡ cells_left o u → n ≡ cells_read o → rs' ≡ recordsOf u' n ++ drop n rs
-    → rs' ≡ recordsLeft o rs
+filled : (o : Res At) (u u' : List ℕ) (rs rs' : List Cell) (n : ℕ) → Sounds o → u' ≡ cells_left o u → n ≡ cells_read o → rs' ≡ records_of u' n ++ drop n rs
+    → rs' ≡ records_left o rs
 filled o u u' rs rs' n sound c e g =
-    g ∙ ap (λ j. recordsOf u' j ++ drop j rs) e ∙ ap (λ v. recordsOf v (cells_read o) ++ drop (cells_read o) rs) c ∙ left_is o u rs sound
+    g ∙ ap (λ j. records_of u' j ++ drop j rs) e ∙ ap (λ v. records_of v (cells_read o) ++ drop (cells_read o) rs) c ∙ left_is o u rs sound
 
 module _ (start file : List ℕ) (number : ℕ) (incoming current : List ℕ) (cr ir cr2 ir2 : ℕ) (u u' t t' u2 u2' t2 t2' current' : List ℕ) (r : Counted) where
   abbrev went : Course
   went = course start file number incoming current cr ir cr2 ir2
 
   pub patched_records : (rs rs' rs2 rs2' : List Cell) (n k : ℕ) → CountedIs start went u u' t t' u2 u2' t2 t2' current current' r
-      → n ≡ r.cells → k ≡ r.incoming → rs' ≡ recordsOf u' n ++ drop n rs → rs2' ≡ recordsOf u2' k ++ drop k rs2
+      → n ≡ r.cells → k ≡ r.incoming → rs' ≡ records_of u' n ++ drop n rs → rs2' ≡ records_of u2' k ++ drop k rs2
       → PatchedRecords start went u u' t t' u2 u2' t2 t2' current current' rs rs' rs2 rs2' r
   patched_records rs rs' rs2 rs2' n k is e d g h =
       let sound = sound_course start file number incoming current cr ir cr2 ir2 in (
         is,
         filled (file_of went) u u' rs rs' n sound.0 (file-is start went u u' t t' u2 u2' t2 t2' current current' r is)
             (e ∙ file-count start went u u' t t' u2 u2' t2 t2' current current' r is) g
-            ∙ sym (file-left recordsLeft rs (λ x q. refl) went),
+            ∙ sym (file-left records_left rs (λ x q. refl) went),
         filled (cell_of went) u2 u2' rs2 rs2' k sound.1 (cell-is start went u u' t t' u2 u2' t2 t2' current current' r is)
             (d ∙ cell-count start went u u' t t' u2 u2' t2 t2' current current' r is) h
-            ∙ sym (cell-left recordsLeft rs2 (λ x q. refl) went),
+            ∙ sym (cell-left records_left rs2 (λ x q. refl) went),
       )
 
 -- 5. A part of a table

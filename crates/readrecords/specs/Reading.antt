@@ -20,9 +20,9 @@ count_of (answer.Read n m) = n
 count_of (answer.Refused k q) = 0
 
 -- 'Room after the last record is left as lent'; 'Tables of a text refused .. are as lent'
-abbrev pub recordsLeft : Res At → List Cell → List Cell
-recordsLeft (fine st) rs = st.book.log.cells ++ drop (length st.book.log.cells) rs
-recordsLeft (bad n q) rs = rs
+abbrev pub records_left : Res At → List Cell → List Cell
+records_left (fine st) rs = st.book.log.cells ++ drop (length st.book.log.cells) rs
+records_left (bad n q) rs = rs
 
 -- what the core leaves where so many cells have a record
 abbrev pub WithinIs : Res At → ℕ → List ℕ → List ℕ → List ℕ → List ℕ → FileRead → Type 0
@@ -30,4 +30,4 @@ WithinIs o room u u' t t' r = FileIs o u u' t t' r × (count_of r.answer ≤ roo
 
 -- THE CONTRACT of the reader that is lent records: the core's, and every record at exit
 abbrev pub RecordsAre : Res At → List ℕ → List ℕ → List ℕ → List ℕ → List Cell → List Cell → FileRead → Type 0
-RecordsAre o u u' t t' rs rs' r = FileIs o u u' t t' r × (rs' ≡ recordsLeft o rs)
+RecordsAre o u u' t t' rs rs' r = FileIs o u u' t t' r × (rs' ≡ records_left o rs)

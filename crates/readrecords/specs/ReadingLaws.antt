@@ -14,8 +14,8 @@ use Rattle.applying.specs.Rows.{cell-is}
 use Rattle.meaning.specs.Cells.{CellsAre}
 use Rattle.meaning.specs.CellList.{each_at}
 use Rattle.meaning.specs.TableLaws.{tables_sound}
-use Rattle.cellrecords.specs.Records.{first_of, recordOf, recordsOf, no_record}
-use Rattle.readrecords.specs.Reading.{room_for, count_of, recordsLeft, WithinIs, RecordsAre}
+use Rattle.cellrecords.specs.Records.{first_of, record_of, records_of, no_record}
+use Rattle.readrecords.specs.Reading.{room_for, count_of, records_left, WithinIs, RecordsAre}
 
 -- the first k of a list, and one more
 take_more : {A : Type 0} (l : List A) (d : A) (k : ℕ) → k < length l → take (suc k) l ≡ take k l ++ get_or l k d ∷ []
@@ -32,15 +32,15 @@ drop-front zero x y h = refl
 drop-front (suc n) [] y h = absurd (omega arith)
 drop-front (suc n) (a ∷ x) y h = drop-front n x y (omega arith)
 
-rows_take : (t : List ℕ) (n : ℕ) (cs : List Cell) → CellsAre t n cs → (k : ℕ) → k ≤ n → recordsOf t k ≡ take k cs
+rows_take : (t : List ℕ) (n : ℕ) (cs : List Cell) → CellsAre t n cs → (k : ℕ) → k ≤ n → records_of t k ≡ take k cs
 unfolding first_of
 rows_take t n cs a zero h = refl
 rows_take t n cs a (suc k) h =
     let l : k < length cs = (let z = a.0 in omega arith) in
     let c = cell-is t (7 * k) (get_or cs k no_record) (a.1 k (omega arith)) (each_at (λ c. c.sort < 256) cs no_record a.2 k l) in
-    ap (λ r. r ++ recordOf t k ∷ []) (rows_take t n cs a k (omega arith)) ∙ ap (λ c. take k cs ++ c ∷ []) c ∙ sym (take_more cs no_record k l)
+    ap (λ r. r ++ record_of t k ∷ []) (rows_take t n cs a k (omega arith)) ∙ ap (λ c. take k cs ++ c ∷ []) c ∙ sym (take_more cs no_record k l)
 
-rows_are : (t : List ℕ) (cs : List Cell) → CellsAre t (length cs) cs → recordsOf t (length cs) ≡ cs
+rows_are : (t : List ℕ) (cs : List Cell) → CellsAre t (length cs) cs → records_of t (length cs) ≡ cs
 rows_are t cs a = rows_take t (length cs) cs a (length cs) (omega arith) ∙ take_whole cs
 
 -- what stands in the log of a text that was read is in range: Sound has it of a file and of a patch's cell
@@ -49,7 +49,7 @@ Sounds o = (st : At) → o ≡ fine st → SoundLog st.book.log
 
 -- what the fill leaves, of a text that was read and of a refused one
 pub left_is : (o : Res At) (u : List ℕ) (rs : List Cell) → Sounds o
-    → recordsOf (cells_left o u) (count_of (answer_of o)) ++ drop (count_of (answer_of o)) rs ≡ recordsLeft o rs
+    → records_of (cells_left o u) (count_of (answer_of o)) ++ drop (count_of (answer_of o)) rs ≡ records_left o rs
 unfolding first_of
 left_is (fine st) u rs sound =
     let cs = st.book.log.cells in
@@ -57,11 +57,11 @@ left_is (fine st) u rs sound =
 left_is (bad n q) u rs sound = refl
 
 pub records-are : (o : Res At) (u u' t t' : List ℕ) (rs rs' : List Cell) (r : FileRead) (n : ℕ) → Sounds o → FileIs o u u' t t' r
-    → n ≡ count_of r.answer → rs' ≡ recordsOf u' n ++ drop n rs → RecordsAre o u u' t t' rs rs' r
+    → n ≡ count_of r.answer → rs' ≡ records_of u' n ++ drop n rs → RecordsAre o u u' t t' rs rs' r
 records-are o u u' t t' rs rs' r n sound f e g =
     let m : n ≡ count_of (answer_of o) = e ∙ ap count_of f.says in
     let k = count_of (answer_of o) in
-    (f, g ∙ ap (λ j. recordsOf u' j ++ drop j rs) m ∙ ap (λ v. recordsOf v k ++ drop k rs) f.cells ∙ left_is o u rs sound)
+    (f, g ∙ ap (λ j. records_of u' j ++ drop j rs) m ∙ ap (λ v. records_of v k ++ drop k rs) f.cells ∙ left_is o u rs sound)
 
 -- a table is as long as it was, so it has a row for each cell
 pub fit_of : (o : Res At) (u : List ℕ) → length (cells_left o u) ≡ length u → 7 * count_of (answer_of o) ≤ length u

@@ -5,13 +5,13 @@ use Rattle.grammar.specs.declared.Cell.{Cell}
 use Rattle.grammar.specs.Machine.{fine}
 use Rattle.annotate.specs.declared.Counted.{Counted}
 use Rattle.meaning.specs.Meaning.{Course, unfit, unread, judged, cell_count, AnnotateIs}
-use Rattle.readrecords.specs.Reading.{recordsLeft}
+use Rattle.readrecords.specs.Reading.{records_left}
 
 -- 'Tables of a text refused or not reached are as lent; those of a text already read keep its reading.'
-unfoldable pub recordsOut : Course → List Cell → List Cell
-recordsOut (unfit n) rs = rs
-recordsOut (unread n q) rs = rs
-recordsOut (judged s st a) rs = recordsLeft (fine st) rs
+unfoldable pub records_out : Course → List Cell → List Cell
+records_out (unfit n) rs = rs
+records_out (unread n q) rs = rs
+records_out (judged s st a) rs = records_left (fine st) rs
 
 -- the core's contract, with the number of cells
 abbrev pub CountedIs : List ℕ → Course → List ℕ → List ℕ → List ℕ → List ℕ → List ℕ → List ℕ → Counted → Type 0
@@ -23,4 +23,4 @@ CountedWithin start c room u u' t t' out out' r = CountedIs start c u u' t t' ou
 
 -- THE CONTRACT of the annotator that is lent records: the core's, and every record at exit
 abbrev pub RecordsOut : List ℕ → Course → List ℕ → List ℕ → List ℕ → List ℕ → List ℕ → List ℕ → List Cell → List Cell → Counted → Type 0
-RecordsOut start c u u' t t' out out' rs rs' r = CountedIs start c u u' t t' out out' r × (rs' ≡ recordsOut c rs)
+RecordsOut start c u u' t t' out out' rs rs' r = CountedIs start c u u' t t' out out' r × (rs' ≡ records_out c rs)

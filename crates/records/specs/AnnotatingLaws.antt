@@ -12,21 +12,21 @@ use Rattle.sheetlaws.specs.Sheet.{Sheet, Decoded, decode}
 use Rattle.sheetlaws.specs.Sheet as bytes
 use Rattle.annotate.specs.declared.Counted.{Counted}
 use Rattle.meaning.specs.Meaning.{Course, unfit, unread, judged, by_text, by_sheet, course, cells_out, cell_count}
-use Rattle.cellrecords.specs.Records.{first_of, recordsOf}
+use Rattle.cellrecords.specs.Records.{first_of, records_of}
 use Rattle.readrecords.specs.Reading.{room_for}
 use Rattle.readrecords.specs.ReadingLaws.{left_is, fit_of, part_left}
-use Rattle.records.specs.Annotating.{recordsOut, CountedIs, CountedWithin, RecordsOut}
+use Rattle.records.specs.Annotating.{records_out, CountedIs, CountedWithin, RecordsOut}
 
 -- what the fill leaves
 abbrev Left : List ℕ → List Cell → Course → Type 0
-Left u rs c = recordsOf (cells_out u c) (cell_count c) ++ drop (cell_count c) rs ≡ recordsOut c rs
+Left u rs c = records_of (cells_out u c) (cell_count c) ++ drop (cell_count c) rs ≡ records_out c rs
 
 left-none : (u : List ℕ) (rs : List Cell) (n : ℕ) → Left u rs (unfit n)
-unfolding cells_out cell_count recordsOut first_of
+unfolding cells_out cell_count records_out first_of
 left-none u rs n = refl
 
 left-text : (text : List ℕ) (cr ir : ℕ) (s : Sheet) (u : List ℕ) (rs : List Cell) (o : Res At) → read_file cr ir text ≡ o → Left u rs (by_text text s o)
-unfolding cells_out cell_count recordsOut first_of
+unfolding cells_out cell_count records_out first_of
 left-text text cr ir s u rs (fine st) e = left_is (fine st) u rs (λ st' x. read_sound cr ir text st' (e ∙ x))
 left-text text cr ir s u rs (bad n q) e = refl
 
@@ -43,12 +43,12 @@ unfolding course
 left-course start text cr ir long u rs = left_sheet start text cr ir long u rs (decode start)
 
 pub records-out : (start text : List ℕ) (cr ir long : ℕ) (u u' t t' out out' : List ℕ) (rs rs' : List Cell) (r : Counted) (n : ℕ)
-    → CountedIs start (course start text cr ir long) u u' t t' out out' r → n ≡ r.cells → rs' ≡ recordsOf u' n ++ drop n rs
+    → CountedIs start (course start text cr ir long) u u' t t' out out' r → n ≡ r.cells → rs' ≡ records_of u' n ++ drop n rs
     → RecordsOut start (course start text cr ir long) u u' t t' out out' rs rs' r
 records-out start text cr ir long u u' t t' out out' rs rs' r n f e g =
     let c = course start text cr ir long in
     let k = cell_count c in
-    (f, g ∙ ap (λ j. recordsOf u' j ++ drop j rs) (e ∙ f.1) ∙ ap (λ v. recordsOf v k ++ drop k rs) f.0.cells ∙ left-course start text cr ir long u rs)
+    (f, g ∙ ap (λ j. records_of u' j ++ drop j rs) (e ∙ f.1) ∙ ap (λ v. records_of v k ++ drop k rs) f.0.cells ∙ left-course start text cr ir long u rs)
 
 -- a row for each cell
 fit_out : (c : Course) (u : List ℕ) → length (cells_out u c) ≡ length u → 7 * cell_count c ≤ length u

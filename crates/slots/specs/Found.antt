@@ -15,7 +15,7 @@ use Rattle.sheetlaws.specs.Sheet.{Arc, nth, place, ar_next, arcs_at, in_at, in_e
 use Rattle.sheetlaws.specs.Whole.{length-arcs_at}
 use Rattle.sheet.specs.Search.{Rises, beyond, absent}
 use Rattle.sheet.specs.Find.{ArcsGood, InsGood, arcs_rise, ins_rise, sheet_good}
-use Rattle.slots.specs.Slots.{as_key, as_instance, recordsOf, sheet_at}
+use Rattle.slots.specs.Slots.{as_key, as_instance, records_of, sheet_at}
 
 -- What stands there.
 
@@ -62,24 +62,24 @@ module _ {A : Type 0} (key : ℕ → A) (next : ℕ → ℕ) (c : A → A → �
 
 module _ (b : List ℕ) (bytes : Bytes b) (n m f : ℕ) (good : check_of b ≡ Good n m f) where
   -- arc number j of the records is the one whose key stands at its place
-  pub arc-at : (j : ℕ) → j < m → get_elem? (recordsOf (sheet_at b n m f)).arcs j ≡ some (as_key (key_at b (place b j f)))
-  unfolding recordsOf
+  pub arc-at : (j : ℕ) → j < m → get_elem? (records_of (sheet_at b n m f)).arcs j ≡ some (as_key (key_at b (place b j f)))
+  unfolding records_of
   arc-at j h = arc-from b m j f h
 
   -- as many as were counted
-  pub arcs_length : length (recordsOf (sheet_at b n m f)).arcs ≡ m
-  unfolding recordsOf
+  pub arcs_length : length (records_of (sheet_at b n m f)).arcs ≡ m
+  unfolding records_of
   arcs_length = length-map (arcs_at b m f) (λ (a : Arc). as_key a.key) ∙ length-arcs_at b m f
 
   -- and so the instances
-  pub instance-at : (j : ℕ) → j < n → get_elem? (recordsOf (sheet_at b n m f)).instances j
+  pub instance-at : (j : ℕ) → j < n → get_elem? (records_of (sheet_at b n m f)).instances j
       ≡ some (record { path = path_at b (nth (in_end b) j 12); type = type_at b (nth (in_end b) j 12) })
-  unfolding recordsOf as_instance
+  unfolding records_of as_instance
   instance-at j h = instance-from b n j 12 h
 
   -- as many as were counted
-  pub instances_length : length (recordsOf (sheet_at b n m f)).instances ≡ n
-  unfolding recordsOf
+  pub instances_length : length (records_of (sheet_at b n m f)).instances ≡ n
+  unfolding records_of
   instances_length = length-map (ins_at b n 12) as_instance ∙ length-ins_at b n 12
 
   -- no two arcs have one key

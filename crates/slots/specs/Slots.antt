@@ -20,8 +20,8 @@ unfoldable pub as_instance : sheet.Instance → Instance
 as_instance i = record { path = i.path; type = i.type }
 
 -- 'the starting sheet's records': all that is on a sheet but the values
-unfoldable pub recordsOf : Sheet → Records
-recordsOf s = record { instances = map as_instance s.instances; arcs = map (λ (a : Arc). as_key a.key) s.arcs }
+unfoldable pub records_of : Sheet → Records
+records_of s = record { instances = map as_instance s.instances; arcs = map (λ (a : Arc). as_key a.key) s.arcs }
 
 -- 'The least 64-bit number means empty'
 unfoldable pub meant : ℤ → Value

@@ -25,7 +25,7 @@ use Rattle.slots.specs.Spelled.{spelled_same}
 use Rattle.slots.specs.Found.{arcs_length}
 use Rattle.applying.specs.Says.{cell_of, cells_of}
 use Rattle.applying.specs.Rows.{cell-is}
-use Rattle.applying.specs.Instances.{recordsAt}
+use Rattle.applying.specs.Instances.{records_at}
 use Rattle.meaning.specs.declared.Whom.{Whom}
 use Rattle.meaning.specs.Whom.{whom_of}
 use Rattle.meaning.specs.Cells.{no_cell}
@@ -115,14 +115,14 @@ module _ (b : List ℕ) (n m f : ℕ) (file incoming : List ℕ) (slash : Bool) 
 
   -- patching, by the least fault of all arcs
   pub patch-by_arcs : Bytes b → check_of b ≡ Good n m f → (v : Values)
-      → history.patch (recordsAt b n m f) (values_of (sheet_at b n m f)) (olds b n m f file incoming slash g) (suc k) (at false 0)
+      → history.patch (records_at b n m f) (values_of (sheet_at b n m f)) (olds b n m f file incoming slash g) (suc k) (at false 0)
       (comer b n m f file incoming slash g) v
       ≡ fault_answer (news b n m f file incoming slash g) (all_written v) all_fault
   patch-by_arcs bytes good v =
-      patch-by-slots (recordsAt b n m f) (values_of (sheet_at b n m f)) (olds b n m f file incoming slash g) (suc k) (at false 0)
+      patch-by-slots (records_at b n m f) (values_of (sheet_at b n m f)) (olds b n m f file incoming slash g) (suc k) (at false 0)
       (comer b n m f file incoming slash g) v (parts b n m f file incoming slash g) (cut-is b n m f file incoming slash g)
       ∙ ap (fault_answer (news b n m f file incoming slash g) (all_written v))
-      (all-scan (recordsAt b n m f) (touched b n m f file incoming slash g) (values_of (sheet_at b n m f)) (news b n m f file incoming slash g)
+      (all-scan (records_at b n m f) (touched b n m f file incoming slash g) (values_of (sheet_at b n m f)) (news b n m f file incoming slash g)
       (own_fault (news b n m f file incoming slash g))
       ∙ rw (arcs_length b bytes n m f good))
 

@@ -8,7 +8,7 @@ use Rattle.history.specs.Events.{Answer, sheet, refused}
 use Rattle.history.specs.Sheet as history
 use Rattle.history.specs.Sheet.{Slot, Values}
 use Rattle.slots.specs.Slots.{values_of, spelled, sheet_at}
-use Rattle.applying.specs.Instances.{recordsAt}
+use Rattle.applying.specs.Instances.{records_at}
 use Rattle.patching.specs.Where.{Where, at}
 use Rattle.arcrun.specs.declared.Least.{Least}
 use Rattle.arcrun.specs.declared.Least.TheVariants as least
@@ -38,7 +38,7 @@ module _ (b : List ℕ) (n m f : ℕ) (file incoming : List ℕ) (slash : Bool) 
   SwapRun current current' r =
       Bytes b → check_of b ≡ Good n m f → (g : Given cells entries cells2 entries2 swap.cells swap.outgoing) → (v : Values)
       → current ≡ spelled (sheet_at b n m f) v
-      → (r ≡ says_of (history.patch (recordsAt b n m f) (values_of (sheet_at b n m f)) (olds b n m f file incoming slash g) (suc swap.outgoing) (at false 0)
+      → (r ≡ says_of (history.patch (records_at b n m f) (values_of (sheet_at b n m f)) (olds b n m f file incoming slash g) (suc swap.outgoing) (at false 0)
       (comer b n m f file incoming slash g) v))
-      × (current' ≡ sheet_of b current n m f (history.patch (recordsAt b n m f) (values_of (sheet_at b n m f)) (olds b n m f file incoming slash g)
+      × (current' ≡ sheet_of b current n m f (history.patch (records_at b n m f) (values_of (sheet_at b n m f)) (olds b n m f file incoming slash g)
       (suc swap.outgoing) (at false 0) (comer b n m f file incoming slash g) v))

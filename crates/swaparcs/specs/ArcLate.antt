@@ -17,7 +17,7 @@ use Rattle.history.specs.Scan.{better}
 use Rattle.history.specs.BySlots.{new_events}
 use Rattle.history.specs.Sheet.{Slot, Values, arc_slots, events, file_events}
 use Rattle.slots.specs.Slots.{values_of, sheet_at}
-use Rattle.applying.specs.Instances.{recordsAt}
+use Rattle.applying.specs.Instances.{records_at}
 use Rattle.patching.specs.Where.{Where, at}
 use Rattle.patching.specs.Group.{group_fault, group_left}
 use Rattle.patching.specs.GroupLaws.{left-lenient, fault_lenient}
@@ -96,9 +96,9 @@ module _ (b : List ℕ) (n m f : ℕ) (file incoming : List ℕ) (slash : Bool) 
       let now = values_of (sheet_at b n m f) in
       let v = late bytes good j l d Some-of y swap.cells g.cs g.is now g.cells_are_of (omega arith) (omega arith) g.entries_are
       (rw (start, d) (scratch_start b bytes n m f good j l)) in
-      let es1 = file_events (recordsAt b n m f) (parts b n m f file incoming slash g).before in
-      let es2 = events (recordsAt b n m f) (comer b n m f file incoming slash g) in
-      let es3 = file_events (recordsAt b n m f) (parts b n m f file incoming slash g).after in
+      let es1 = file_events (records_at b n m f) (parts b n m f file incoming slash g).before in
+      let es2 = events (records_at b n m f) (comer b n m f file incoming slash g) in
+      let es3 = file_events (records_at b n m f) (parts b n m f file incoming slash g).after in
       late_better _ ev x (late_append j Some-of now (lenient es1) (es2 ++ lenient es3) 0 ev x (late_lenient j Some-of now es1 0 ev x v)).1
 
   -- known in the incoming cell
@@ -111,9 +111,9 @@ module _ (b : List ℕ) (n m f : ℕ) (file incoming : List ℕ) (slash : Bool) 
       let Some-of = touched b n m f file incoming slash g in
       let now = values_of (sheet_at b n m f) in
       let a = first_run b n m f file incoming slash cells entries cells2 entries2 swap q flags st0 st1 least.Nothing ready start run1 bytes good j l d g y in
-      let es1 = file_events (recordsAt b n m f) (parts b n m f file incoming slash g).before in
-      let es2 = events (recordsAt b n m f) (comer b n m f file incoming slash g) in
-      let es3 = file_events (recordsAt b n m f) (parts b n m f file incoming slash g).after in
+      let es1 = file_events (records_at b n m f) (parts b n m f file incoming slash g).before in
+      let es2 = events (records_at b n m f) (comer b n m f file incoming slash g) in
+      let es3 = file_events (records_at b n m f) (parts b n m f file incoming slash g).after in
       let then = group_left (arc_slots j) Some-of now es1 in
       let v = late bytes good j l d Some-of y g.cell2 g.is2 then g.cell_is g.sort2 g.entries_are2 a.1 in
       let z : swap.outgoing + swap.before ≡ 0 + length es1
@@ -137,9 +137,9 @@ module _ (b : List ℕ) (n m f : ℕ) (file incoming : List ℕ) (slash : Bool) 
       let c = second_run b n m f file incoming slash cells entries cells2 entries2 swap q flags st0 st1 least.Nothing ready start run1 st2 least.Nothing refl
       run2 bytes good j l d g y in
       let u = g.there in
-      let es1 = file_events (recordsAt b n m f) (parts b n m f file incoming slash g).before in
-      let es2 = events (recordsAt b n m f) (comer b n m f file incoming slash g) in
-      let es3 = file_events (recordsAt b n m f) (parts b n m f file incoming slash g).after in
+      let es1 = file_events (records_at b n m f) (parts b n m f file incoming slash g).before in
+      let es2 = events (records_at b n m f) (comer b n m f file incoming slash g) in
+      let es3 = file_events (records_at b n m f) (parts b n m f file incoming slash g).after in
       let then = group_left (arc_slots j) Some-of now es1 in
       let behind = group_left (arc_slots j) Some-of then es2 in
       let h = late bytes good j l d Some-of y swap.cells g.cs g.is behind g.cells_are_of (omega arith) (omega arith) g.entries_are c.1 in

@@ -20,7 +20,7 @@ use Rattle.history.specs.Sheet.{Slot, Values, arc_slots, events, file_events}
 use Rattle.slots.specs.Slots.{slot_number, slot_at, values_of, spelled, sheet_at}
 use Rattle.slots.specs.Numbers.{slot_at_lem, slot_below, slots_at, slots_length}
 use Rattle.slots.specs.Spelled.{spelled_same}
-use Rattle.applying.specs.Instances.{recordsAt}
+use Rattle.applying.specs.Instances.{records_at}
 use Rattle.meaning.specs.declared.Whom.{Whom}
 use Rattle.meaning.specs.Cells.{no_cell}
 use Rattle.meaning.specs.CellList.{before, before-is, entries_part}
@@ -126,13 +126,13 @@ module _ (b : List ℕ) (n m f : ℕ) (file incoming : List ℕ) (slash : Bool) 
   module _ (ready : SwapReady cells entries cells2 entries2 swap) (g : Given cells entries cells2 entries2 swap.cells swap.outgoing) where
     -- the three parts of the new file's events
     abbrev pub es1 : List (Event Slot Where)
-    es1 = file_events (recordsAt b n m f) (parts b n m f file incoming slash g).before
+    es1 = file_events (records_at b n m f) (parts b n m f file incoming slash g).before
 
     abbrev pub es2 : List (Event Slot Where)
-    es2 = events (recordsAt b n m f) (comer b n m f file incoming slash g)
+    es2 = events (records_at b n m f) (comer b n m f file incoming slash g)
 
     abbrev es3 : List (Event Slot Where)
-    es3 = file_events (recordsAt b n m f) (parts b n m f file incoming slash g).after
+    es3 = file_events (records_at b n m f) (parts b n m f file incoming slash g).after
 
     -- and their lengths
     pub long1 : length es1 ≡ swap.outgoing + swap.before
@@ -140,7 +140,7 @@ module _ (b : List ℕ) (n m f : ℕ) (file incoming : List ℕ) (slash : Bool) 
         let c = g.cells_are_of in
         let l = g.there in
         let u : swap.outgoing ≤ length g.cs = rw c.0 (omega arith) in
-        length-file (recordsAt b n m f) (at false) file slash g.cs g.is swap.outgoing u (sym g.entries_are.0)
+        length-file (records_at b n m f) (at false) file slash g.cs g.is swap.outgoing u (sym g.entries_are.0)
         ∙ ap (λ z. swap.outgoing + z) (sym (ready.before ∙ before-is cells swap.cells g.cs c swap.outgoing (omega arith)))
 
     pub long2 : length es2 ≡ 1 + swap.coming
@@ -220,7 +220,7 @@ module _ (b : List ℕ) (n m f : ℕ) (file incoming : List ℕ) (slash : Bool) 
     arc_ran_before ev x p s e bytes good j l d g y =
         let h = rw e at (first_run bytes good j l d g y) in
         let z : ev ≡ h.0 = h.1 ∙ zero-add h.0 in
-        let w = word_before (recordsAt b n m f) (parts b n m f file incoming slash g) (comer b n m f file incoming slash g) h.0 h.3.0 h.3.1 in (
+        let w = word_before (records_at b n m f) (parts b n m f file incoming slash g) (comer b n m f file incoming slash g) h.0 h.3.0 h.3.1 in (
           (rw z (fault_1 ready g j (touched b n m f file incoming slash g) _ h.2), (w.0, rw z w.1, w.2 ∙ h.3.2)),
           λ k. absurd (fault_some ev x p s k),
         )
@@ -242,7 +242,7 @@ module _ (b : List ℕ) (n m f : ℕ) (file incoming : List ℕ) (slash : Bool) 
       arc_ran_own ev x p s e bytes good j l d g y =
           let a = rw none1 at (first_run bytes good j l d g y) in
           let h = rw e at (second_run bytes good j l d g y) in
-          let w = word_own (recordsAt b n m f) (parts b n m f file incoming slash g) (comer b n m f file incoming slash g) h.0 h.3.0 h.3.1 in
+          let w = word_own (records_at b n m f) (parts b n m f file incoming slash g) (comer b n m f file incoming slash g) h.0 h.3.0 h.3.1 in
           let v = rw (long1 ready g) at w.1 in (
             (rw h.1 (fault_2 ready g j (touched b n m f file incoming slash g) h.0 x a.0 h.2), (w.0, rw h.1 v, w.2 ∙ h.3.2)),
             λ k. absurd (fault_some ev x p s k),
@@ -280,7 +280,7 @@ module _ (b : List ℕ) (n m f : ℕ) (file incoming : List ℕ) (slash : Bool) 
           )
           by (least.Fault ev x p s) a c h =
               let z : swap.outgoing + swap.before + (1 + swap.coming + h.0) ≡ ev = (let t = h.1 in omega arith) in
-              let w = word_behind (recordsAt b n m f) (parts b n m f file incoming slash g) (comer b n m f file incoming slash g) h.0 h.3.0 h.3.1 in
+              let w = word_behind (records_at b n m f) (parts b n m f file incoming slash g) (comer b n m f file incoming slash g) h.0 h.3.0 h.3.1 in
               let v = rw (long1 ready g, long2 ready g, z) at w.1 in (
                 (past_2 ready g j (touched b n m f file incoming slash g) a c ∙ rw (h.2, z), (w.0, v, w.2 ∙ h.3.2)),
                 λ k. absurd (fault_some ev x p s k),

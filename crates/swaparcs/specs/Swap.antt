@@ -11,7 +11,7 @@ use Rattle.history.specs.Events.{Event, holds, final, history, affected}
 use Rattle.history.specs.Faults.{Fault}
 use Rattle.history.specs.Sheet.{Slot, Values, Cell, Cut, events}
 use Rattle.history.specs.BySlots.{new_events}
-use Rattle.slots.specs.Slots.{recordsOf, values_of, sheet_at}
+use Rattle.slots.specs.Slots.{records_of, values_of, sheet_at}
 use Rattle.applying.specs.Says.{cell_of, cells_of}
 use Rattle.applying.specs.Rows.{CellIs}
 use Rattle.meaning.specs.Entries.{EntriesAre}
@@ -48,11 +48,11 @@ module _ (b : List ℕ) (n m f : ℕ) (file incoming : List ℕ) (slash : Bool) 
 
   -- the new file's events, as patching reads them
   abbrev pub news : List (Event Slot Where)
-  news = new_events (recordsOf (sheet_at b n m f)) parts comer
+  news = new_events (records_of (sheet_at b n m f)) parts comer
 
   -- 'every value slot supplied by the outgoing or the incoming cell'
   abbrev pub touched : Slot → Bool
-  touched = affected (events (recordsOf (sheet_at b n m f)) parts.one) (events (recordsOf (sheet_at b n m f)) comer)
+  touched = affected (events (records_of (sheet_at b n m f)) parts.one) (events (records_of (sheet_at b n m f)) comer)
 
   -- the program's least fault is this one
   abbrev pub LeastIs : Option Fault → Least → Type 0

@@ -1,5 +1,5 @@
 -- `cellrecords::fill_records` meets its contract: a walk of its MIR, by hand, with a loop. A turn calls `row_at`, opens the borrow, stores the record at k, and closes the borrow.
--- Between turns the borrow is closed at `zs (recordOf t) ys k`: k records of the table, and the rest as lent.
+-- Between turns the borrow is closed at `zs (record_of t) ys k`: k records of the table, and the rest as lent.
 -- Assumes nothing.
 use mathlib.Core.Path.{◌≡◌, refl, sym, ap, subst, ◌∙◌}
 use Prim.Native.Nat.{ℕ, suc, zero, ◌<◌, ◌≤◌, ◌^◌, ◌*◌, ◌+◌}
@@ -53,7 +53,7 @@ use denote.Triple.Clauses.{ensured, lasts}
 use denote.Triple.Walked.{says, needs, Stays, stay_slice, stay_none, stay_none_slice, walk_of, Goes-slice, Goes-none, Goes-none_slice, Walks, ends_at, walked, walk_Meets}
 use denote.Exit.{yes}
 use Rattle.grammar.specs.declared.Cell.{Cell}
-use Rattle.cellrecords.specs.Records.{no_record, recordOf}
+use Rattle.cellrecords.specs.Records.{no_record, record_of}
 use Rattle.grammar.specs.contracts.Cell as T
 use Rattle.grammar.proofs.Cell.TheLaws as T'
 use Rattle.cellrecords.specs.contracts.row_at as callee
@@ -97,7 +97,7 @@ module _ {M : Type 1} {𝓤 : Ura M} (𝓛 : Logic 𝓤) (mem : Memory → SProp
 
   -- the list after k turns, and the borrow at a list
   abbrev zs_at : ℕ → List Cell
-  zs_at k = zs (recordOf t.now) ys k
+  zs_at k = zs (record_of t.now) ys k
 
   abbrev s : List Cell → Bor (List Cell)
   s w = record { ref_ptr = (b, o); ghost_name = γ; now = w }
@@ -139,12 +139,12 @@ module _ {M : Type 1} {𝓤 : Ura M} (𝓛 : Logic 𝓤) (mem : Memory → SProp
       nothing ! $ owned ! usize (Is usize) (uint_Makes 𝓛 w64) k _ (refl, fits) $ fjoin ! $ move ! (1 ∷ 0 ∷ []) $ fjoin ! $ done !
 
   -- of the callee's `ensured`, the clause alone
-  said : (k : ℕ) (r : Cell) → ent 𝓤 (ensured 𝓛 callee.ended (callee.clauses 𝓛 mem run) (κ', tt) (t, (k, tt)) tt r) (fact 𝓤 (r ≡ recordOf t.now k))
-  said k r = ex_e 𝓤 _ (λ ws. snd∗ 𝓤 (sem 𝓛 (lasts callee.ended (κ', tt) (t, (k, tt)) ws)) (fact 𝓤 (r ≡ recordOf t.now k)))
+  said : (k : ℕ) (r : Cell) → ent 𝓤 (ensured 𝓛 callee.ended (callee.clauses 𝓛 mem run) (κ', tt) (t, (k, tt)) tt r) (fact 𝓤 (r ≡ record_of t.now k))
+  said k r = ex_e 𝓤 _ (λ ws. snd∗ 𝓤 (sem 𝓛 (lasts callee.ended (κ', tt) (t, (k, tt)) ws)) (fact 𝓤 (r ≡ record_of t.now k)))
 
   exits : ent 𝓤 (⋆ 𝓛 (‵ (Obs (zs_at n)) ∷ ‵ (Bor (zs_at n)) ∷ ‵ (flft κ q) ∷ (‵ (flft κ' q') ⊛ ‵ ftrue) ∷ ‵ Town ∷ [])) (Post vunit)
   exits =
-      let e : length (zs_at n) ≡ length ys = length_zs (recordOf t.now) ys n l.0 in
+      let e : length (zs_at n) ≡ length ys = length_zs (record_of t.now) ys n l.0 in
       qed 𝓛 (‵ (Obs (zs_at n)) ∷ ‵ (Bor (zs_at n)) ∷ ‵ (flft κ q) ∷ (‵ (flft κ' q') ⊛ ‵ ftrue) ∷ ‵ Town ∷ []) ∵
       suffices ! _ (ends_at 𝓛 f.ended stayed (f.clauses 𝓛 mem run) ((κs, (q, (q', tt)), tt, x, at), tt) vunit tt (zs_at n, (tt, (tt, tt))) (e, (tt, (tt, tt)))) $ says ! refl $
       move ! (2 ∷ 3 ∷ []) $ join ! $ frame ! $
@@ -195,7 +195,7 @@ module _ {M : Type 1} {𝓤 : Ura M} (𝓛 : Logic 𝓤) (mem : Memory → SProp
     unfolding after_turn
     more k X small next =
         let inside : k < length ys = omega (arith, l.0) in
-        let long : length (zs_at k) ≡ length ys = length_zs (recordOf t.now) ys k (omega arith) in
+        let long : length (zs_at k) ≡ length ys = length_zs (record_of t.now) ys k (omega arith) in
         let within : k < length (zs_at k) = omega arith in
         let next_fits : k + 1 < 2 ^ 64 = omega arith in
         qed 𝓛 (At k) ∵ exec ! C Λ En turn (any_q (after_turn 𝓤 H X Left)) $
@@ -207,7 +207,7 @@ module _ {M : Type 1} {𝓤 : Ura M} (𝓛 : Logic 𝓤) (mem : Memory → SProp
         -- [what the callee asks; t's; obs; the borrow; the token of κ; _4; _5; _6; _7; _8; _1; _2; _3; _0; …]
         calls_at ! (fm_of 𝓤 H 𝓛.laws 𝓣) (RowAt 𝓛 mem run) known (to k) (and_then ! (load ! (from ! (stop !)) (look ! 11 refl)) (and_then ! (load ! (from ! (stop !)) (look ! 5 refl)) (no_more !))) (λ u.
         use1 𝓛 (later (some (λ (r : Cell). ((‵ (flft κ' q') ⊛ ‵ ftrue) ⊛ ‵ (R.own r (u ∷ []))) ⊛ raw (ensured 𝓛 callee.ended (callee.clauses 𝓛 mem run) (κ', tt) (t, (k, tt)) tt r)))) (id⊢ 𝓤 _) $ await ! tt $ pick ! (λ r.
-        split ! $ move ! (1 ∷ []) $ use1 𝓛 (raw (fact 𝓤 (r ≡ recordOf t.now k))) (said k r) $ heard ! (r ≡ recordOf t.now k) (λ e. split ! $ move ! (1 ∷ []) $
+        split ! $ move ! (1 ∷ []) $ use1 𝓛 (raw (fact 𝓤 (r ≡ record_of t.now k))) (said k r) $ heard ! (r ≡ record_of t.now k) (λ e. split ! $ move ! (1 ∷ []) $
         -- [the result; the token of κ'; t's; obs; the borrow; the token of κ; _4; _5; _6; _7; _8; _1; _2; _3; _0; …]
         peeks ! R (Is R) (shows 𝓛 R) r (u ∷ []) (λ is.
         land ! (from ! (stop !)) (init ! 8 refl ((LL.lawful T.the_type T'.the_laws 𝓛).typed r _ is).0) $
@@ -223,8 +223,8 @@ module _ {M : Type 1} {𝓤 : Ura M} (𝓛 : Logic 𝓤) (mem : Memory → SProp
         -- [obs; the borrow; the token of κ; the token of κ'; t's; _4; _5; _6; _7; _8; _1; _2; _3; _0; …]
         assigns_last ! (bin ! (load ! (from ! (stop !)) (look ! 5 refl)) (lit ! tt) (record { fits = next_fits })) (from ! (stop !)) (store ! 5 refl (tt, record { fits = next_fits })) $
         forget ! 6 refl $ forget ! 7 refl $ forget ! 8 refl $ forget ! 9 refl $
-        rewrite ! 0 (λ (w : List Cell). ‵ (Obs w)) (ap (set (zs_at k) k) e ∙ zs_more (recordOf t.now) ys k inside no_record) refl $
-        rewrite ! 1 (λ (w : List Cell). ‵ (Bor w)) (ap (set (zs_at k) k) e ∙ zs_more (recordOf t.now) ys k inside no_record) refl $
+        rewrite ! 0 (λ (w : List Cell). ‵ (Obs w)) (ap (set (zs_at k) k) e ∙ zs_more (record_of t.now) ys k inside no_record) refl $
+        rewrite ! 1 (λ (w : List Cell). ‵ (Bor w)) (ap (set (zs_at k) k) e ∙ zs_more (record_of t.now) ys k inside no_record) refl $
         rewrite ! 5 (λ (j : ℕ). ‵ (fat full_share word l₄ 0 (vint w64 j))) (add-one k) refl $ by ! next)))))
 
     -- the turn that leaves the loop, and the rest of the body
@@ -275,7 +275,7 @@ module _ {M : Type 1} {𝓤 : Ura M} (𝓛 : Logic 𝓤) (mem : Memory → SProp
       assigns ! (of_opd ! (lit ! tt)) (from ! (stop !)) (init ! 8 refl (tt, record { fits = lit< tt })) $
       move ! (19 ∷ []) $ fsplit ! $ fsplit ! $ drop ! $ fsplit ! $ move ! (2 ∷ []) $ fsplit ! $ move ! (22 ∷ []) $ split ! $
       -- [the token of κ; the token of κ'; t's; n's; obs; the borrow; _8; …; _0; …]
-      rewrite ! 4 (λ (w : List Cell). ‵ (Obs w)) (zs_none (recordOf t.now) ys) refl $ rewrite ! 5 (λ (w : List Cell). ‵ (Bor w)) (zs_none (recordOf t.now) ys) refl $
+      rewrite ! 4 (λ (w : List Cell). ‵ (Obs w)) (zs_none (record_of t.now) ys) refl $ rewrite ! 5 (λ (w : List Cell). ‵ (Bor w)) (zs_none (record_of t.now) ys) refl $
       keep ! (4 ∷ 5 ∷ 0 ∷ 1 ∷ 2 ∷ 14 ∷ 12 ∷ 10 ∷ 8 ∷ 6 ∷ 20 ∷ 18 ∷ 16 ∷ 22 ∷ 23 ∷ 21 ∷ 19 ∷ 17 ∷ 15 ∷ 13 ∷ 11 ∷ 9 ∷ 7 ∷ []) $ by ! (loops 𝓣 known l₀ l₁ l₂ l₃ l₄ l₅ l₆ l₇ l₈))))))))))
 
 module _ {M : Type 1} {𝓤 : Ura M} (𝓛 : Logic 𝓤) (mem : Memory → SProp 𝓤) (run : Routine → Fun 𝓤) where

@@ -53,7 +53,7 @@ returns-then-kind-eq7 c =
 
 pub returns-in-Stop : goal.returns-in-Stop
 returns-in-Stop c =
-    (rw c.no_entry.ensures.0 (en.listable-stops c.args.text.now c.args.from c.in-Stop.number c.in-Stop.place (check c.args.slash) c.args.slash c.args.unit c.args.room (head_of 0 0 0) [] c.requires (sym c.token_from-t.ensures ∙ c.in-Stop.is)), c.no_entry.ensures.1)
+    (rw c.no_entry.ensures.0 (en.listable_stops c.args.text.now c.args.from c.in-Stop.number c.in-Stop.place (check c.args.slash) c.args.slash c.args.unit c.args.room (head_of 0 0 0) [] c.requires (sym c.token_from-t.ensures ∙ c.in-Stop.is)), c.no_entry.ensures.1)
 
 pub returns-else-kind-eq7 : goal.returns-else-kind-eq7
 returns-else-kind-eq7 c =

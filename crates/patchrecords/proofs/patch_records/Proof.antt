@@ -43,7 +43,7 @@ use denote.Triple.Walked.{says, Stays, stay_dropped, gave_slice, walk_of, Goes-d
 use denote.Exit.{yes}
 use Rattle.grammar.specs.declared.Cell.{Cell}
 use Rattle.grammar.specs.contracts.Cell as T
-use Rattle.cellrecords.specs.Records.{recordsOf}
+use Rattle.cellrecords.specs.Records.{records_of}
 use Rattle.readrecords.specs.Reading.{room_for}
 use Rattle.cellrecords.proofs.Again.{LentAgain, lends_again, comes_back, shares_rest}
 use Rattle.patch.specs.declared.Counted.{Counted}
@@ -337,8 +337,8 @@ module _ {M : Type 1} {𝓤 : Ura M} (𝓛 : Logic 𝓤) (mem : Memory → SProp
         nothing ! $ move ! (3 ∷ 0 ∷ []) $ fjoin ! $ move ! (9 ∷ 0 ∷ []) $ fjoin ! $ move ! (28 ∷ 0 ∷ []) $ fjoin ! $ nothing ! $ move ! (9 ∷ 0 ∷ []) $ join ! $ move ! (25 ∷ 0 ∷ []) $ join ! $ use2 𝓛 (raw ((Filled 𝓛 mem run).pre (to₄ δ₁ ws.1.1.1.1.1.0 n v))) (asked₄ δ₁ ws.1.1.1.1.1.0 n v (fit ws.1.1.1.1.0 ws.1.1.1.1.1.0 ws.1.1.1.1.1.1.0 ws.1.1.1.1.1.1.1.0 ws.1.1.1.1.1.1.1.1.0 r n s lzs e)) $
         calls_at ! fm (Filled 𝓛 mem run) known₄ (to₄ δ₁ ws.1.1.1.1.1.0 n v) (and_then ! (load ! (from ! (stop !)) (look ! 38 refl)) (and_then ! (load ! (from ! (stop !)) (look ! 34 refl)) (and_then ! (load ! (from ! (stop !)) (look ! 66 refl)) (no_more !)))) (λ w.
         use1 𝓛 (later (some (λ (z : Unit {0}). ((‵ (flft κ₅ q₅) ⊛ ‵ (flft κ₃ q₃) ⊛ ‵ ftrue) ⊛ ‵ (Nothing.own z (w ∷ []))) ⊛ raw (ensured 𝓛 filled.ended (filled.clauses 𝓛 mem run) κs₄ (args₄ δ₁ ws.1.1.1.1.1.0 n) tt z)))) (id⊢ 𝓤 _) $ await ! tt $ pick ! (λ z.
-        split ! $ move ! (1 ∷ []) $ use1 𝓛 (some (λ (vs : List Cell × (Unit {0} × (Unit {0} × Unit {0}))). ‵ (lasts filled.ended κs₄ (args₄ δ₁ ws.1.1.1.1.1.0 n) vs) ⊛ raw (fact 𝓤 (vs.0 ≡ recordsOf ws.1.1.1.1.1.0 n ++ drop_l n records.now)))) (id⊢ 𝓤 _) $ pick ! (λ vs.
-        split ! $ move ! (1 ∷ []) $ heard ! (vs.0 ≡ recordsOf ws.1.1.1.1.1.0 n ++ drop_l n records.now) (λ g. fsplit ! $ fsplit ! $ move ! (1 ∷ []) $ feq_l ! (λ lrs. move ! (2 ∷ []) $ split ! $ move ! (1 ∷ []) $ peeks ! Nothing (Is Nothing) (shows 𝓛 Nothing) z (w ∷ []) (λ is-z. land ! (from ! (stop !)) (init ! 45 refl ((Nothing-Lawful 𝓛).typed z _ is-z).0) $
+        split ! $ move ! (1 ∷ []) $ use1 𝓛 (some (λ (vs : List Cell × (Unit {0} × (Unit {0} × Unit {0}))). ‵ (lasts filled.ended κs₄ (args₄ δ₁ ws.1.1.1.1.1.0 n) vs) ⊛ raw (fact 𝓤 (vs.0 ≡ records_of ws.1.1.1.1.1.0 n ++ drop_l n records.now)))) (id⊢ 𝓤 _) $ pick ! (λ vs.
+        split ! $ move ! (1 ∷ []) $ heard ! (vs.0 ≡ records_of ws.1.1.1.1.1.0 n ++ drop_l n records.now) (λ g. fsplit ! $ fsplit ! $ move ! (1 ∷ []) $ feq_l ! (λ lrs. move ! (2 ∷ []) $ split ! $ move ! (1 ∷ []) $ peeks ! Nothing (Is Nothing) (shows 𝓛 Nothing) z (w ∷ []) (λ is-z. land ! (from ! (stop !)) (init ! 45 refl ((Nothing-Lawful 𝓛).typed z _ is-z).0) $
         move ! (1 ∷ []) $ split ! $ move ! (1 ∷ []) $ split ! $
         assigns ! (addr ! (from ! (fld ! refl (hop ! (look_in ! 79 (sub ! 0 refl (whole !))) (stop !))))) (from ! (stop !)) (init ! 37 refl (tt, tt)) $
         assigns ! (agg ! (and_then ! (load ! (from ! (stop !)) (look ! 37 refl)) (and_then ! (load ! (from ! (fld ! refl (stop !))) (look_in ! 79 (sub ! 1 refl (whole !)))) (no_more !)))) (from ! (stop !)) (init ! 35 refl (tt, (tt, (record { fits = gr₂.0 }, tt)))) $
@@ -347,8 +347,8 @@ module _ {M : Type 1} {𝓤 : Ura M} (𝓛 : Logic 𝓤) (mem : Memory → SProp
         nothing ! $ move ! (7 ∷ 0 ∷ []) $ fjoin ! $ move ! (11 ∷ 0 ∷ []) $ fjoin ! $ move ! (28 ∷ 0 ∷ []) $ fjoin ! $ nothing ! $ move ! (11 ∷ 0 ∷ []) $ join ! $ move ! (27 ∷ 0 ∷ []) $ join ! $ use2 𝓛 (raw ((Filled 𝓛 mem run).pre (to₅ δ₃ ws.1.1.1.1.1.1.1.0 k v₂))) (asked₅ δ₃ ws.1.1.1.1.1.1.1.0 k v₂ (fit₂ ws.1.1.1.1.0 ws.1.1.1.1.1.0 ws.1.1.1.1.1.1.0 ws.1.1.1.1.1.1.1.0 ws.1.1.1.1.1.1.1.1.0 r k s lzs₂ e₂)) $
         calls_at ! fm (Filled 𝓛 mem run) known₄ (to₅ δ₃ ws.1.1.1.1.1.1.1.0 k v₂) (and_then ! (load ! (from ! (stop !)) (look ! 31 refl)) (and_then ! (load ! (from ! (stop !)) (look ! 27 refl)) (and_then ! (load ! (from ! (stop !)) (look ! 65 refl)) (no_more !)))) (λ w₂.
         use1 𝓛 (later (some (λ (z₂ : Unit {0}). ((‵ (flft κ₈ q₈) ⊛ ‵ (flft κ₆ q₆) ⊛ ‵ ftrue) ⊛ ‵ (Nothing.own z₂ (w₂ ∷ []))) ⊛ raw (ensured 𝓛 filled.ended (filled.clauses 𝓛 mem run) κs₅ (args₅ δ₃ ws.1.1.1.1.1.1.1.0 k) tt z₂)))) (id⊢ 𝓤 _) $ await ! tt $ pick ! (λ z₂.
-        split ! $ move ! (1 ∷ []) $ use1 𝓛 (some (λ (vs₂ : List Cell × (Unit {0} × (Unit {0} × Unit {0}))). ‵ (lasts filled.ended κs₅ (args₅ δ₃ ws.1.1.1.1.1.1.1.0 k) vs₂) ⊛ raw (fact 𝓤 (vs₂.0 ≡ recordsOf ws.1.1.1.1.1.1.1.0 k ++ drop_l k records2.now)))) (id⊢ 𝓤 _) $ pick ! (λ vs₂.
-        split ! $ move ! (1 ∷ []) $ heard ! (vs₂.0 ≡ recordsOf ws.1.1.1.1.1.1.1.0 k ++ drop_l k records2.now) (λ g₂. fsplit ! $ fsplit ! $ move ! (1 ∷ []) $ feq_l ! (λ lrs₂. move ! (2 ∷ []) $ split ! $ move ! (1 ∷ []) $ peeks ! Nothing (Is Nothing) (shows 𝓛 Nothing) z₂ (w₂ ∷ []) (λ is-z₂. land ! (from ! (stop !)) (store ! 46 refl ((Nothing-Lawful 𝓛).typed z₂ _ is-z₂).0) $
+        split ! $ move ! (1 ∷ []) $ use1 𝓛 (some (λ (vs₂ : List Cell × (Unit {0} × (Unit {0} × Unit {0}))). ‵ (lasts filled.ended κs₅ (args₅ δ₃ ws.1.1.1.1.1.1.1.0 k) vs₂) ⊛ raw (fact 𝓤 (vs₂.0 ≡ records_of ws.1.1.1.1.1.1.1.0 k ++ drop_l k records2.now)))) (id⊢ 𝓤 _) $ pick ! (λ vs₂.
+        split ! $ move ! (1 ∷ []) $ heard ! (vs₂.0 ≡ records_of ws.1.1.1.1.1.1.1.0 k ++ drop_l k records2.now) (λ g₂. fsplit ! $ fsplit ! $ move ! (1 ∷ []) $ feq_l ! (λ lrs₂. move ! (2 ∷ []) $ split ! $ move ! (1 ∷ []) $ peeks ! Nothing (Is Nothing) (shows 𝓛 Nothing) z₂ (w₂ ∷ []) (λ is-z₂. land ! (from ! (stop !)) (store ! 46 refl ((Nothing-Lawful 𝓛).typed z₂ _ is-z₂).0) $
         move ! (1 ∷ []) $ split ! $ move ! (1 ∷ []) $ split ! $
         assigns ! (of_opd ! (load ! (from ! (stop !)) (look ! 74 refl))) (from ! (stop !)) (init ! 102 refl ((LL.lawful F.the_type F'.the_laws 𝓛).typed r _ is).0) $
         returns ! (look ! 102 refl) $ forget ! 32 refl $ forget ! 34 refl $ forget ! 36 refl $ forget ! 38 refl $ forget ! 40 refl $ forget ! 42 refl $ forget ! 44 refl $ forget ! 46 refl $ forget ! 48 refl $ forget ! 50 refl $ forget ! 52 refl $ forget ! 54 refl $ forget ! 56 refl $ forget ! 58 refl $ forget ! 60 refl $ forget ! 62 refl $ forget ! 64 refl $ forget ! 66 refl $ forget ! 68 refl $ forget ! 70 refl $ forget ! 72 refl $ forget ! 74 refl $ forget ! 76 refl $ forget ! 78 refl $ forget ! 80 refl $ forget ! 82 refl $ forget ! 84 refl $ forget ! 86 refl $ forget ! 88 refl $ forget ! 90 refl $ forget ! 92 refl $ forget ! 94 refl $ forget ! 96 refl $ forget ! 98 refl $ forget ! 100 refl $ forget ! 102 refl $

@@ -48,7 +48,7 @@ use Rattle.sound.specs.Sound.{read_sound}
 use Rattle.readcells.specs.declared.FileRead.{FileRead}
 use Rattle.readcells.specs.contracts.FileRead as F
 use Rattle.readcells.proofs.FileRead.TheLaws as F'
-use Rattle.cellrecords.specs.Records.{recordsOf}
+use Rattle.cellrecords.specs.Records.{records_of}
 use Rattle.readrecords.specs.Reading.{room_for, count_of, WithinIs, RecordsAre}
 use Rattle.readrecords.specs.ReadingLaws.{records-are, rows_fit}
 use Rattle.cellrecords.proofs.Again.{LentAgain, lends_again, comes_back, shares_rest}
@@ -257,8 +257,8 @@ module _ {M : Type 1} {𝓤 : Ura M} (𝓛 : Logic 𝓤) (mem : Memory → SProp
         -- [what the callee asks; table's last; κ₂; κ₀; entries' last; true; true; true; _16; …]
         calls_at ! fm (Filled 𝓛 mem run) known₃ (to₃ δ₁ ws.1.0 n v) (and_then ! (load ! (from ! (stop !)) (look ! 12 refl)) (and_then ! (load ! (from ! (stop !)) (look ! 8 refl)) (and_then ! (load ! (from ! (stop !)) (look ! 26 refl)) (no_more !)))) (λ w.
         use1 𝓛 (later (some (λ (z : Unit {0}). ((‵ (flft κ₃ q₃) ⊛ ‵ (flft κ₁ q₁) ⊛ ‵ ftrue) ⊛ ‵ (Nothing.own z (w ∷ []))) ⊛ raw (ensured 𝓛 filled.ended (filled.clauses 𝓛 mem run) κs₃ (args₃ δ₁ ws.1.0 n) tt z)))) (id⊢ 𝓤 _) $ await ! tt $ pick ! (λ z.
-        split ! $ move ! (1 ∷ []) $ use1 𝓛 (some (λ (vs : List Cell × (Unit {0} × (Unit {0} × Unit {0}))). ‵ (lasts filled.ended κs₃ (args₃ δ₁ ws.1.0 n) vs) ⊛ raw (fact 𝓤 (vs.0 ≡ recordsOf ws.1.0 n ++ drop_l n records.now)))) (id⊢ 𝓤 _) $ pick ! (λ vs.
-        split ! $ move ! (1 ∷ []) $ heard ! (vs.0 ≡ recordsOf ws.1.0 n ++ drop_l n records.now) (λ g. fsplit ! $ fsplit ! $ move ! (1 ∷ []) $ feq_l ! (λ lr.
+        split ! $ move ! (1 ∷ []) $ use1 𝓛 (some (λ (vs : List Cell × (Unit {0} × (Unit {0} × Unit {0}))). ‵ (lasts filled.ended κs₃ (args₃ δ₁ ws.1.0 n) vs) ⊛ raw (fact 𝓤 (vs.0 ≡ records_of ws.1.0 n ++ drop_l n records.now)))) (id⊢ 𝓤 _) $ pick ! (λ vs.
+        split ! $ move ! (1 ∷ []) $ heard ! (vs.0 ≡ records_of ws.1.0 n ++ drop_l n records.now) (λ g. fsplit ! $ fsplit ! $ move ! (1 ∷ []) $ feq_l ! (λ lr.
         -- [records' last; true; the tokens and the result; table's last; κ₂; κ₀; entries' last; true; true; true; _16; …]
         move ! (2 ∷ []) $ split ! $ move ! (1 ∷ []) $ peeks ! Nothing (Is Nothing) (shows 𝓛 Nothing) z (w ∷ []) (λ is-z. land ! (from ! (stop !)) (init ! 19 refl ((Nothing-Lawful 𝓛).typed z _ is-z).0) $
         -- [the result; κ₃ and κ₁; records' last; true; table's last; κ₂; κ₀; entries' last; true; true; true; _16; …]

@@ -47,7 +47,7 @@ use Rattle.annotate.specs.declared.Counted.{Counted}
 use Rattle.meaning.specs.Meaning.{Course, course}
 use Rattle.annotate.specs.contracts.Counted as F
 use Rattle.annotate.proofs.Counted.TheLaws as F'
-use Rattle.cellrecords.specs.Records.{recordsOf}
+use Rattle.cellrecords.specs.Records.{records_of}
 use Rattle.readrecords.specs.Reading.{room_for}
 use Rattle.records.specs.Annotating.{CountedWithin, RecordsOut}
 use Rattle.records.specs.AnnotatingLaws.{records-out, rows_fit_out}
@@ -269,8 +269,8 @@ module _ {M : Type 1} {𝓤 : Ura M} (𝓛 : Logic 𝓤) (mem : Memory → SProp
         move ! (2 ∷ 3 ∷ []) $ join ! $ move ! (11 ∷ 0 ∷ []) $ join ! $ move ! (0 ∷ 1 ∷ []) $ use2 𝓛 (raw ((Filled 𝓛 mem run).pre (to₃ δ₁ ws.1.1.0 n v))) (asked₃ δ₁ ws.1.1.0 n v (fit ws.1.1.0 ws.1.1.1.0 ws.1.1.1.1.0 r n s lz e)) $
         calls_at ! fm (Filled 𝓛 mem run) known₃ (to₃ δ₁ ws.1.1.0 n v) (and_then ! (load ! (from ! (stop !)) (look ! 15 refl)) (and_then ! (load ! (from ! (stop !)) (look ! 11 refl)) (and_then ! (load ! (from ! (stop !)) (look ! 33 refl)) (no_more !)))) (λ w.
         use1 𝓛 (later (some (λ (z : Unit {0}). ((‵ (flft κ₅ q₅) ⊛ ‵ (flft κ₂ q₂) ⊛ ‵ ftrue) ⊛ ‵ (Nothing.own z (w ∷ []))) ⊛ raw (ensured 𝓛 filled.ended (filled.clauses 𝓛 mem run) κs₃ (args₃ δ₁ ws.1.1.0 n) tt z)))) (id⊢ 𝓤 _) $ await ! tt $ pick ! (λ z.
-        split ! $ move ! (1 ∷ []) $ use1 𝓛 (some (λ (vs : List Cell × (Unit {0} × (Unit {0} × Unit {0}))). ‵ (lasts filled.ended κs₃ (args₃ δ₁ ws.1.1.0 n) vs) ⊛ raw (fact 𝓤 (vs.0 ≡ recordsOf ws.1.1.0 n ++ drop_l n records.now)))) (id⊢ 𝓤 _) $ pick ! (λ vs.
-        split ! $ move ! (1 ∷ []) $ heard ! (vs.0 ≡ recordsOf ws.1.1.0 n ++ drop_l n records.now) (λ g. fsplit ! $ fsplit ! $ move ! (1 ∷ []) $ feq_l ! (λ lr.
+        split ! $ move ! (1 ∷ []) $ use1 𝓛 (some (λ (vs : List Cell × (Unit {0} × (Unit {0} × Unit {0}))). ‵ (lasts filled.ended κs₃ (args₃ δ₁ ws.1.1.0 n) vs) ⊛ raw (fact 𝓤 (vs.0 ≡ records_of ws.1.1.0 n ++ drop_l n records.now)))) (id⊢ 𝓤 _) $ pick ! (λ vs.
+        split ! $ move ! (1 ∷ []) $ heard ! (vs.0 ≡ records_of ws.1.1.0 n ++ drop_l n records.now) (λ g. fsplit ! $ fsplit ! $ move ! (1 ∷ []) $ feq_l ! (λ lr.
         move ! (2 ∷ []) $ split ! $ move ! (1 ∷ []) $ peeks ! Nothing (Is Nothing) (shows 𝓛 Nothing) z (w ∷ []) (λ is-z. land ! (from ! (stop !)) (init ! 22 refl ((Nothing-Lawful 𝓛).typed z _ is-z).0) $
         assigns ! (of_opd ! (load ! (from ! (stop !)) (look ! 38 refl))) (from ! (stop !)) (init ! 54 refl ((LL.lawful F.the_type F'.the_laws 𝓛).typed r _ is).0) $
         returns ! (look ! 54 refl) $ forget ! 14 refl $ forget ! 16 refl $ forget ! 18 refl $ forget ! 20 refl $ forget ! 22 refl $ forget ! 24 refl $ forget ! 26 refl $ forget ! 28 refl $ forget ! 30 refl $ forget ! 32 refl $ forget ! 34 refl $ forget ! 36 refl $ forget ! 38 refl $ forget ! 40 refl $ forget ! 42 refl $ forget ! 44 refl $ forget ! 46 refl $ forget ! 48 refl $ forget ! 50 refl $ forget ! 52 refl $ forget ! 54 refl $
