@@ -14,15 +14,15 @@ returns-then-not-is_meant c =
 
 pub overflow_add-row : goal.overflow_add-row
 overflow_add-row c =
-    omega (arith, c.requires.3, c.type_inv.1.1.1.1.1.1.0)
+    omega (arith, c.requires.3, c.type_inv.entries)
 
 pub overflow_add-row-2 : goal.overflow_add-row-2
 overflow_add-row-2 c =
-    omega (arith, c.requires.3, c.type_inv.1.1.1.1.1.1.0)
+    omega (arith, c.requires.3, c.type_inv.entries)
 
 pub offset_bounds-entries-row : goal.offset_bounds-entries-row
 offset_bounds-entries-row c =
-    omega (arith, c.requires.3, c.type_inv.1.1.1.1.1.1.0)
+    omega (arith, c.requires.3, c.type_inv.entries)
 
 pub arc_refusal-number-requires : goal.arc_refusal-number-requires
 arc_refusal-number-requires c =

@@ -93,7 +93,7 @@ enum_known-status-in-Done-status c =
 pub overflow_add-row : goal.overflow_add-row
 overflow_add-row c =
     let e' : Listable c.args.text.now c.in-Entry.q (item_place c.loop-number.within c.args.slash) c.args.slash c.args.unit (c.args.room - c.loop-number.n) (status.Done c.in-Done-status.end) c.read_entry-e.result.entry (take c.read_entry-e.result.count c.read_entry-e.result.list) = rw c.in-Done-status.is at c.read_entry-e.ensures.0 in
-    omega (arith, e'.3, c.loop-number.invariant.2, c.requires.1, c.type_inv.1.1.1.1.1.1.1.0)
+    omega (arith, e'.3, c.loop-number.invariant.2, c.requires.1, c.type_inv.entries)
 
 pub note_entry-requires : goal.note_entry-requires
 note_entry-requires c =

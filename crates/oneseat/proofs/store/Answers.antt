@@ -12,7 +12,7 @@ loop-k-init c =
 
 pub overflow_add-table : goal.overflow_add-table
 overflow_add-table c =
-    omega (arith, c.requires, c.type_inv.0)
+    omega (arith, c.requires, c.type_inv.table)
 
 pub bounds-table-at : goal.bounds-table-at
 bounds-table-at c =

@@ -121,7 +121,7 @@ overflow_add-n c =
 pub overflow_add-m : goal.overflow_add-m
 overflow_add-m c =
     let t' = rw c.in-Done.is at c.read_tail-tail.ensures in
-    omega (arith, t'.4, c.loop-hand.invariant.5, c.requires.2, c.type_inv.1.1.1.1.1.1.1.1.0)
+    omega (arith, t'.4, c.loop-hand.invariant.5, c.requires.2, c.type_inv.entries)
 
 pub cell_more-more-requires : goal.cell_more-more-requires
 cell_more-more-requires c =
@@ -171,10 +171,10 @@ returns-in-Last c =
     let a' : Along c.args.text.now c.args.lead c.args.slash c.args.unit c.args.cellroom c.args.entryroom (hand.At c.in-At.from c.in-At.kind c.in-At.start c.in-At.end c.in-At.long c.in-At.key) c.loop-hand.n c.loop-hand.m c.loop-hand.invariant.0 c.loop-hand.invariant.1 = rw c.in-At.is at c.loop-hand.invariant.7 in
     let t' = rw c.in-Done.is at c.read_tail-tail.ensures in
     let w : MoreRead c.args.text.now c.in-Done.behind c.args.slash (mr.Last c.in-Last.e) = rw c.in-Last.is at c.cell_more-more.ensures in
-    finished-cells c.args.text.now c.args.lead c.args.slash c.args.unit c.args.cellroom c.args.entryroom (c.loop-hand.n + 1) (c.loop-hand.m + c.in-Done.count) (c.loop-hand.invariant.0 ++ t'.0 ∷ []) (c.loop-hand.invariant.1 ++ t'.1) c.args.fill c.args.cells.now c.read_tail-tail.new.1.1.1.1.1.1.1.1.1.0 c.args.entries.now c.read_tail-tail.new.1.1.1.1.1.1.1.1.1.1.0
+    finished-cells c.args.text.now c.args.lead c.args.slash c.args.unit c.args.cellroom c.args.entryroom (c.loop-hand.n + 1) (c.loop-hand.m + c.in-Done.count) (c.loop-hand.invariant.0 ++ t'.0 ∷ []) (c.loop-hand.invariant.1 ++ t'.1) c.args.fill c.args.cells.now c.read_tail-tail.new.cells c.args.entries.now c.read_tail-tail.new.entries
     (more-cells c.loop-hand.n c.loop-hand.invariant.0 t'.0 c.loop-hand.invariant.2) (more_items c.loop-hand.m c.in-Done.count c.loop-hand.invariant.1 t'.1 c.loop-hand.invariant.3 t'.2)
-    (cells_then c.args.fill c.args.cells.now c.loop-hand.cells c.read_tail-tail.new.1.1.1.1.1.1.1.1.1.0 c.loop-hand.n c.loop-hand.invariant.0 t'.0 c.loop-hand.invariant.2 (omega (arith, c.loop-hand.invariant.4, c.requires.1)) c.loop-hand.invariant.8 t'.7)
-    (items_then c.args.fill c.args.entries.now c.loop-hand.entries c.read_tail-tail.new.1.1.1.1.1.1.1.1.1.1.0 c.loop-hand.m c.loop-hand.invariant.1 t'.1 c.loop-hand.invariant.3 (omega (arith, c.loop-hand.invariant.5, c.requires.2)) c.loop-hand.invariant.9 t'.6)
+    (cells_then c.args.fill c.args.cells.now c.loop-hand.cells c.read_tail-tail.new.cells c.loop-hand.n c.loop-hand.invariant.0 t'.0 c.loop-hand.invariant.2 (omega (arith, c.loop-hand.invariant.4, c.requires.1)) c.loop-hand.invariant.8 t'.7)
+    (items_then c.args.fill c.args.entries.now c.loop-hand.entries c.read_tail-tail.new.entries c.loop-hand.m c.loop-hand.invariant.1 t'.1 c.loop-hand.invariant.3 (omega (arith, c.loop-hand.invariant.5, c.requires.2)) c.loop-hand.invariant.9 t'.6)
     c.in-Last.e
     (λ q e. along_last c.args.text.now c.args.lead c.args.slash c.args.unit c.args.cellroom c.args.entryroom c.loop-hand.n c.loop-hand.m c.loop-hand.invariant.0 c.loop-hand.invariant.1 c.in-At.from c.in-At.kind c.in-At.start c.in-At.end c.in-At.key c.in-At.long i' a' c.if-key-ne53.false (omega (arith, c.if-n-cellroom.false, c.loop-hand.invariant.4)) c.in-Done.behind t'.0 t'.1 t'.3 c.in-Last.e c.in-Done.count q t'.2 w e)
     (λ j q e. along-after c.args.text.now c.args.lead c.args.slash c.args.unit c.args.cellroom c.args.entryroom c.loop-hand.n c.loop-hand.m c.loop-hand.invariant.0 c.loop-hand.invariant.1 c.in-At.from c.in-At.kind c.in-At.start c.in-At.end c.in-At.key c.in-At.long i' a' c.if-key-ne53.false (omega (arith, c.if-n-cellroom.false, c.loop-hand.invariant.4)) c.in-Done.behind t'.0 t'.1 t'.3 c.in-Last.e j q w e)
@@ -202,8 +202,8 @@ loop-hand-preserved c =
       omega (arith, t'.4, c.loop-hand.invariant.5),
       w.1,
       along-next c.args.text.now c.args.lead c.args.slash c.args.unit c.args.cellroom c.args.entryroom c.loop-hand.n c.loop-hand.m c.loop-hand.invariant.0 c.loop-hand.invariant.1 c.in-At.from c.in-At.kind c.in-At.start c.in-At.end c.in-At.key c.in-At.long i' a' c.if-key-ne53.false (omega (arith, c.if-n-cellroom.false, c.loop-hand.invariant.4)) c.in-Done.behind t'.0 t'.1 t'.3 c.in-Next.h c.in-Done.count t'.2 w,
-      cells_then c.args.fill c.args.cells.now c.loop-hand.cells c.read_tail-tail.new.1.1.1.1.1.1.1.1.1.0 c.loop-hand.n c.loop-hand.invariant.0 t'.0 c.loop-hand.invariant.2 (omega (arith, c.loop-hand.invariant.4, c.requires.1)) c.loop-hand.invariant.8 t'.7,
-      items_then c.args.fill c.args.entries.now c.loop-hand.entries c.read_tail-tail.new.1.1.1.1.1.1.1.1.1.1.0 c.loop-hand.m c.loop-hand.invariant.1 t'.1 c.loop-hand.invariant.3 (omega (arith, c.loop-hand.invariant.5, c.requires.2)) c.loop-hand.invariant.9 t'.6,
+      cells_then c.args.fill c.args.cells.now c.loop-hand.cells c.read_tail-tail.new.cells c.loop-hand.n c.loop-hand.invariant.0 t'.0 c.loop-hand.invariant.2 (omega (arith, c.loop-hand.invariant.4, c.requires.1)) c.loop-hand.invariant.8 t'.7,
+      items_then c.args.fill c.args.entries.now c.loop-hand.entries c.read_tail-tail.new.entries c.loop-hand.m c.loop-hand.invariant.1 t'.1 c.loop-hand.invariant.3 (omega (arith, c.loop-hand.invariant.5, c.requires.2)) c.loop-hand.invariant.9 t'.6,
       c.read_tail-tail.auto.1.1.1.1.1.1.1.1.1.0 ∙ c.loop-hand.invariant.10,
       c.read_tail-tail.auto.1.1.1.1.1.1.1.1.1.1.0 ∙ c.loop-hand.invariant.11,
     )
