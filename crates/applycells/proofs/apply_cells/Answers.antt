@@ -49,22 +49,9 @@ returns-in-Refused c =
           (c.loop-k.invariant.2 y g) (rw c.in-Refused.is at c.apply_cell-went.ensures.1) y g,
     )
 
-pub overflow_add-first : goal.overflow_add-first
-overflow_add-first c =
-    omega (arith, c.requires.2, c.type_inv.cells)
-
-pub offset_bounds-cells-row : goal.offset_bounds-cells-row
-offset_bounds-cells-row c =
-    omega (arith, c.requires.2, c.type_inv.cells)
-
 pub bounds-cells-row : goal.bounds-cells-row
 bounds-cells-row c =
     omega (arith, c.requires.2)
-
-pub overflow_add-first-in-loop-k : goal.overflow_add-first-in-loop-k
-overflow_add-first-in-loop-k c =
-    let w = entries_within c.args.cells.now c.loop-k.k c.args.count (omega arith) in
-    omega (arith, w, c.loop-k.invariant.1, c.requires.3, c.type_inv.entries)
 
 pub overflow_add-k : goal.overflow_add-k
 overflow_add-k c = omega arith

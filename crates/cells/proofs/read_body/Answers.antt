@@ -66,11 +66,6 @@ returns-in-Refused-status c =
     let e' : Listable c.args.text.now c.in-Entry.q (item_place c.loop-number.within c.args.slash) c.args.slash c.args.unit (c.args.room - c.loop-number.n) (status.Refused c.in-Refused-status.number c.in-Refused-status.place) c.read_entry-e.result.entry (take c.read_entry-e.result.count c.read_entry-e.result.list) = rw c.in-Refused-status.is at c.read_entry-e.ensures.0 in
     (along_bad c.args.text.now c.args.from c.args.slash c.args.unit c.args.room c.loop-number.p c.loop-number.n c.loop-number.within c.loop-number.some c.loop-number.invariant.0 c.loop-number.invariant.4 c.in-Entry.q u c.in-Refused-status.number c.in-Refused-status.place c.read_entry-e.result.entry (take c.read_entry-e.result.count c.read_entry-e.result.list) e', λ f. c.loop-number.invariant.6 ∙ rw f)
 
-pub overflow_add-row : goal.overflow_add-row
-overflow_add-row c =
-    let e' : Listable c.args.text.now c.in-Entry.q (item_place c.loop-number.within c.args.slash) c.args.slash c.args.unit (c.args.room - c.loop-number.n) (status.Done c.in-Done-status.end) c.read_entry-e.result.entry (take c.read_entry-e.result.count c.read_entry-e.result.list) = rw c.in-Done-status.is at c.read_entry-e.ensures.0 in
-    omega (arith, e'.3, c.loop-number.invariant.2, c.requires.1, c.type_inv.entries)
-
 pub note_entry-requires : goal.note_entry-requires
 note_entry-requires c =
     let e' : Listable c.args.text.now c.in-Entry.q (item_place c.loop-number.within c.args.slash) c.args.slash c.args.unit (c.args.room - c.loop-number.n) (status.Done c.in-Done-status.end) c.read_entry-e.result.entry (take c.read_entry-e.result.count c.read_entry-e.result.list) = rw c.in-Done-status.is at c.read_entry-e.ensures.0 in
@@ -98,5 +93,5 @@ loop-number-preserved c =
       along-entry c.args.text.now c.args.from c.args.slash c.args.unit c.args.room c.loop-number.p c.loop-number.n c.loop-number.within c.loop-number.some c.loop-number.invariant.0 c.loop-number.invariant.4 c.in-Entry.q u c.in-Done-status.end c.read_entry-e.result.entry (take c.read_entry-e.result.count c.read_entry-e.result.list) e',
       omega (arith, u.1.0, e'.1, c.loop-number.invariant.5),
       c.note_entry.ensures ∙ rw c.loop-number.invariant.6 (filled_on c.args.fill c.args.entries.now c.args.row c.loop-number.n c.loop-number.invariant.0 (item c.read_entry-e.result.entry (take c.read_entry-e.result.count c.read_entry-e.result.list)) c.loop-number.invariant.1 (omega (arith, e'.3, c.loop-number.invariant.2, c.requires.1))),
-      c.note_entry.auto.0 ∙ c.loop-number.invariant.7,
+      c.note_entry.auto.entries ∙ c.loop-number.invariant.7,
     )

@@ -14,14 +14,6 @@ pub loop-k-init : goal.loop-k-init
 loop-k-init c =
     (omega arith, refl, entries_none c.args.start.now (pick c.args.side c.args.incoming.now c.args.file.now) c.args.plan.slash c.args.plan.instances c.args.plan.arcs c.args.plan.first c.args.side c.args.entries.now c.args.first c.args.some c.args.whom c.args.celltype.now c.args.event c.args.arcs.now c.args.flags.now c.args.states.now c.args.count)
 
-pub overflow_add-row : goal.overflow_add-row
-overflow_add-row c =
-    omega (arith, c.loop-k-test.true, c.requires.4, c.type_inv.entries)
-
-pub overflow_mul-row : goal.overflow_mul-row
-overflow_mul-row c =
-    omega (arith, c.loop-k-test.true, c.requires.4, c.type_inv.entries)
-
 pub head_at-entry-requires : goal.head_at-entry-requires
 head_at-entry-requires c =
     omega (arith, c.loop-k-test.true, c.requires.4)
@@ -37,18 +29,6 @@ run_entry-number-requires c =
 pub overflow_add-result : goal.overflow_add-result
 overflow_add-result c =
     omega (arith, c.loop-k-test.true, c.requires.8)
-
-pub overflow_add-result-then-number-ne0 : goal.overflow_add-result-then-number-ne0
-overflow_add-result-then-number-ne0 c =
-    omega (arith, c.loop-k-test.true, c.requires.4, c.type_inv.entries)
-
-pub offset_bounds-entries-row : goal.offset_bounds-entries-row
-offset_bounds-entries-row c =
-    omega (arith, c.loop-k-test.true, c.requires.4, c.type_inv.entries)
-
-pub bounds-entries-row : goal.bounds-entries-row
-bounds-entries-row c =
-    omega (arith, c.loop-k-test.true, c.requires.4, c.type_inv.entries)
 
 pub shape_of-states-then-number-ne0 : goal.shape_of-states-then-number-ne0
 shape_of-states-then-number-ne0 c =

@@ -4,10 +4,6 @@ use native.Mathlib.Omega.{arith}
 use lib.ListN.{length}
 use Rattle.oneseat.proofs.run_seat.Goals as goal
 
-pub overflow_mul-seat-then-number-eq0 : goal.overflow_mul-seat-then-number-eq0
-overflow_mul-seat-then-number-eq0 c =
-    omega (arith, c.requires.5, c.type_inv.states)
-
 pub returns-then-number-eq0 : goal.returns-then-number-eq0
 returns-then-number-eq0 c =
     let l : length c.run_entry-number.new.state ≡ 144 = c.state-4-1.given in (

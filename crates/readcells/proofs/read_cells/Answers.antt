@@ -85,11 +85,11 @@ read_tail-tail-requires c =
 
 pub shape_of-cells-in-Refused-tail : goal.shape_of-cells-in-Refused-tail
 shape_of-cells-in-Refused-tail c =
-    c.read_tail-tail.auto.1.1.1.1.1.1.1.1.1.0 ∙ c.loop-hand.invariant.10
+    c.read_tail-tail.auto.cells ∙ c.loop-hand.invariant.10
 
 pub shape_of-entries-in-Refused-tail : goal.shape_of-entries-in-Refused-tail
 shape_of-entries-in-Refused-tail c =
-    c.read_tail-tail.auto.1.1.1.1.1.1.1.1.1.1.0 ∙ c.loop-hand.invariant.11
+    c.read_tail-tail.auto.entries ∙ c.loop-hand.invariant.11
 
 pub returns-in-Refused-tail : goal.returns-in-Refused-tail
 returns-in-Refused-tail c =
@@ -102,11 +102,6 @@ pub overflow_add-n : goal.overflow_add-n
 overflow_add-n c =
     omega (arith, c.if-n-cellroom.false, c.loop-hand.invariant.4)
 
-pub overflow_add-m : goal.overflow_add-m
-overflow_add-m c =
-    let t' = rw c.in-Done.is at c.read_tail-tail.ensures in
-    omega (arith, t'.4, c.loop-hand.invariant.5, c.requires.2, c.type_inv.entries)
-
 pub cell_more-more-requires : goal.cell_more-more-requires
 cell_more-more-requires c =
     let t' = rw c.in-Done.is at c.read_tail-tail.ensures in
@@ -114,11 +109,11 @@ cell_more-more-requires c =
 
 pub shape_of-cells-in-Refused-more : goal.shape_of-cells-in-Refused-more
 shape_of-cells-in-Refused-more c =
-    c.read_tail-tail.auto.1.1.1.1.1.1.1.1.1.0 ∙ c.loop-hand.invariant.10
+    c.read_tail-tail.auto.cells ∙ c.loop-hand.invariant.10
 
 pub shape_of-entries-in-Refused-more : goal.shape_of-entries-in-Refused-more
 shape_of-entries-in-Refused-more c =
-    c.read_tail-tail.auto.1.1.1.1.1.1.1.1.1.1.0 ∙ c.loop-hand.invariant.11
+    c.read_tail-tail.auto.entries ∙ c.loop-hand.invariant.11
 
 pub returns-in-Refused-more : goal.returns-in-Refused-more
 returns-in-Refused-more c =
@@ -135,11 +130,11 @@ finish-requires c =
 
 pub shape_of-cells-in-Last : goal.shape_of-cells-in-Last
 shape_of-cells-in-Last c =
-    c.read_tail-tail.auto.1.1.1.1.1.1.1.1.1.0 ∙ c.loop-hand.invariant.10
+    c.read_tail-tail.auto.cells ∙ c.loop-hand.invariant.10
 
 pub shape_of-entries-in-Last : goal.shape_of-entries-in-Last
 shape_of-entries-in-Last c =
-    c.read_tail-tail.auto.1.1.1.1.1.1.1.1.1.1.0 ∙ c.loop-hand.invariant.11
+    c.read_tail-tail.auto.entries ∙ c.loop-hand.invariant.11
 
 pub returns-in-Last : goal.returns-in-Last
 returns-in-Last c =
@@ -176,6 +171,6 @@ loop-hand-preserved c =
       along-next c.args.text.now c.args.lead c.args.slash c.args.unit c.args.cellroom c.args.entryroom c.loop-hand.n c.loop-hand.m c.loop-hand.invariant.0 c.loop-hand.invariant.1 c.in-At.from c.in-At.kind c.in-At.start c.in-At.end c.in-At.key c.in-At.long i' a' c.if-key-ne53.false (omega (arith, c.if-n-cellroom.false, c.loop-hand.invariant.4)) c.in-Done.behind t'.0 t'.1 t'.3 c.in-Next.h c.in-Done.count t'.2 w,
       cells_then c.args.fill c.args.cells.now c.loop-hand.cells c.read_tail-tail.new.cells c.loop-hand.n c.loop-hand.invariant.0 t'.0 c.loop-hand.invariant.2 (omega (arith, c.loop-hand.invariant.4, c.requires.1)) c.loop-hand.invariant.8 t'.7,
       items_then c.args.fill c.args.entries.now c.loop-hand.entries c.read_tail-tail.new.entries c.loop-hand.m c.loop-hand.invariant.1 t'.1 c.loop-hand.invariant.3 (omega (arith, c.loop-hand.invariant.5, c.requires.2)) c.loop-hand.invariant.9 t'.6,
-      c.read_tail-tail.auto.1.1.1.1.1.1.1.1.1.0 ∙ c.loop-hand.invariant.10,
-      c.read_tail-tail.auto.1.1.1.1.1.1.1.1.1.1.0 ∙ c.loop-hand.invariant.11,
+      c.read_tail-tail.auto.cells ∙ c.loop-hand.invariant.10,
+      c.read_tail-tail.auto.entries ∙ c.loop-hand.invariant.11,
     )

@@ -39,7 +39,7 @@ loop-i-preserved c =
       (
         c.put_words.ensures ∙ rw (c.value_words-words.ensures, e, c.loop-i.invariant.1.0, values_turn (take c.args.count c.args.list) c.loop-i.i)
             (put-put c.args.table.now (values_row (take c.args.count c.args.list) c.loop-i.i) (value_words (get_or (take c.args.count c.args.list) c.loop-i.i nothing)) c.args.place (c.args.place + 3 * c.loop-i.i) b (omega (arith, c.requires.0))),
-        c.put_words.auto.0 ∙ c.loop-i.invariant.1.1,
+        c.put_words.auto.table ∙ c.loop-i.invariant.1.1,
       ),
     )
 
