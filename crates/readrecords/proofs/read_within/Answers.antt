@@ -1,10 +1,5 @@
 -- `readrecords::read_within` meets its contract.
-use Prim.Native.Nat.{◌*◌, ◌/◌, ◌≤◌}
-use mathlib.Core.Path.{◌≡◌, sym}
-use native.Mathlib.Omega.{arith}
-use lib.ListN.{length, take}
-use lib.Seq.{length-take-le}
-use borrow.Author.Rules.{rules}
+use Rattle.std.proofs.Common.{◌*◌, ◌/◌, ◌≤◌, ◌≡◌, sym, arith, length, take, length-take-le, rules}
 use Rattle.grammar.specs.Outcome.{read_file}
 use Rattle.readrecords.specs.ReadingLaws.{within-part, within-whole}
 use Rattle.readrecords.proofs.read_within.Goals as goal
