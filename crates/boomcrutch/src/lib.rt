@@ -1,4 +1,7 @@
-// What Rust and C call: the functions of the static library. Each takes whatever it is given; bad input gets its refusal.
+// What Rust and C call: the functions of the library, which `boomcrutch_c` gives to C under the same names. Each takes whatever it is given; bad input
+// gets its refusal.
+#![tactic(auto)]
+
 ghost use Rattle.std.specs.Prelude.{◌≡◌, ◌/◌, length};
 ghost use Rattle.tokens.specs.Stream.{stream, count};
 ghost use Rattle.grammar.specs.Outcome.{read_file};
@@ -17,20 +20,14 @@ use sheetform::check_sheet;
 use tokens::count_tokens;
 
 // How many tokens a text has before what ends them.
-#[unsafe(no_mangle)]
-pub extern "C" fn boomcrutch_count_tokens(text: &[u8]) -> usize
+pub fn boomcrutch_count_tokens(text: &[u8]) -> usize
     ensures { result ≡ count (stream text.now 0).toks }
 {
     count_tokens(text)
 }
 
 // Reads a file into the two tables.
-#[unsafe(no_mangle)]
-pub extern "C" fn boomcrutch_read_file(
-    text: &[u8],
-    cells: &mut [u64],
-    entries: &mut [u64],
-) -> ReadNumbers
+pub fn boomcrutch_read_file(text: &[u8], cells: &mut [u64], entries: &mut [u64]) -> ReadNumbers
     ensures { (result ≡ read_numbers (read_file (length cells.old / 7) (length entries.old / 28) text.now)) × (cells.new ≡ cells_left (read_file (length cells.old / 7) (length entries.old / 28) text.now) cells.old) × (entries.new ≡ entries_left (read_file (length cells.old / 7) (length entries.old / 28) text.now) entries.old) }
 {
     let read = read_file(text, cells, entries);
@@ -38,8 +35,7 @@ pub extern "C" fn boomcrutch_read_file(
 }
 
 // Reads a text that is one cell into the two tables, by the divider (0 for ., 1 for /) and the time scale of its file.
-#[unsafe(no_mangle)]
-pub extern "C" fn boomcrutch_read_cell(
+pub fn boomcrutch_read_cell(
     text: &[u8],
     slash: u64,
     scale: u64,
@@ -59,8 +55,7 @@ pub extern "C" fn boomcrutch_read_cell(
 }
 
 // Checks a timing sheet.
-#[unsafe(no_mangle)]
-pub extern "C" fn boomcrutch_check_sheet(sheet: &[u8]) -> SheetNumbers
+pub fn boomcrutch_check_sheet(sheet: &[u8]) -> SheetNumbers
     ensures { result ≡ sheet_numbers (check_of sheet.now) }
 {
     let check = check_sheet(sheet);
@@ -68,8 +63,7 @@ pub extern "C" fn boomcrutch_check_sheet(sheet: &[u8]) -> SheetNumbers
 }
 
 // Annotates the starting sheet with a file.
-#[unsafe(no_mangle)]
-pub extern "C" fn boomcrutch_annotate(
+pub fn boomcrutch_annotate(
     start: &[u8],
     text: &[u8],
     cells: &mut [u64],
@@ -90,8 +84,7 @@ pub extern "C" fn boomcrutch_annotate(
 }
 
 // Patches the current sheet: cell `number` of the file, from 1, is swapped for the incoming one.
-#[unsafe(no_mangle)]
-pub extern "C" fn boomcrutch_patch<'a>(
+pub fn boomcrutch_patch<'a>(
     start: &[u8],
     file: &'a [u8],
     number: u64,

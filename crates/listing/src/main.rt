@@ -1,208 +1,226 @@
-// The listing of a file (document 01, 'One listing in full'): what its cells and entries say, or its refusal.
+// The listing of a file (document 01, 'One listing in full'): what its cells and entries say, or its refusal. Where a write fails, so does the
+// function, at once.
+#![tactic(auto)]
+
 ghost use Rattle.std.specs.Prelude.{◌+◌, ◌*◌, ◌≤◌, length};
 
-use libc::{STDIN_FILENO, STDOUT_FILENO};
 use readcells::Answer;
 use reader::read_file;
+use std::io;
+use std::io::{Read, Write};
 
-fn print(word: &[u8]) {
-    io::write_all(STDOUT_FILENO, word);
+fn print<W: Write>(out: &mut W, word: &[u8]) -> io::Result<()> {
+    out.write_all(word)
 }
 
-fn print_number(n: u64) {
-    io::print_decimal(STDOUT_FILENO, n);
+fn print_number<W: Write>(out: &mut W, n: u64) -> io::Result<()> {
+    write!(out, "{n}")
 }
 
 // 'refused N at P'.
-fn print_refusal(number: u8, place: usize) {
-    print(b"refused ");
-    print_number(number as u64);
-    print(b" at ");
-    print_number(place as u64);
-    print(b"\n");
+fn print_refusal<W: Write>(out: &mut W, number: u8, place: usize) -> io::Result<()> {
+    print(out, b"refused ")?;
+    print_number(out, number as u64)?;
+    print(out, b" at ")?;
+    print_number(out, place as u64)?;
+    print(out, b"\n")
 }
 
 // 'cells N entries M', as the example has it.
-fn print_counts(cells: usize, entries: usize) {
-    print(b"cells ");
-    print_number(cells as u64);
-    print(b" entries ");
-    print_number(entries as u64);
-    print(b"\n");
+fn print_counts<W: Write>(out: &mut W, cells: usize, entries: usize) -> io::Result<()> {
+    print(out, b"cells ")?;
+    print_number(out, cells as u64)?;
+    print(out, b" entries ")?;
+    print_number(out, entries as u64)?;
+    print(out, b"\n")
 }
 
 // A part of the text, from .. to .., as written.
-fn print_part(text: &[u8], from: u64, to: u64) {
+fn print_part<W: Write>(out: &mut W, text: &[u8], from: u64, to: u64) -> io::Result<()> {
     let first = from as usize;
     let last = to as usize;
     if first <= last {
         if last <= text.len() {
-            print(&text[first..last]);
+            return print(out, &text[first..last]);
         }
     }
+    Ok(())
 }
 
 // '. for the top, * as itself': the sort is 0 for the top, 1 for a path from .. to .., 2 for *.
-fn print_path(text: &[u8], sort: u64, from: u64, to: u64) {
+fn print_path<W: Write>(out: &mut W, text: &[u8], sort: u64, from: u64, to: u64) -> io::Result<()> {
     match sort {
-        0 => print(b"."),
-        1 => print_part(text, from, to),
-        _ => print(b"*"),
+        0 => print(out, b"."),
+        1 => print_part(out, text, from, to),
+        _ => print(out, b"*"),
     }
 }
 
 // 'C gives type and path'. The cell's seven words begin at start.
-fn print_cell(text: &[u8], cells: &[u64], start: usize)
+fn print_cell<W: Write>(out: &mut W, text: &[u8], cells: &[u64], start: usize) -> io::Result<()>
     requires { start + 7 ≤ length cells.now }
 {
-    print(b"C ");
-    print_part(text, cells[start + 1], cells[start + 2]);
-    print(b" ");
-    print_path(text, cells[start + 3], cells[start + 4], cells[start + 5]);
-    print(b"\n");
+    print(out, b"C ")?;
+    print_part(out, text, cells[start + 1], cells[start + 2])?;
+    print(out, b" ")?;
+    print_path(
+        out,
+        text,
+        cells[start + 3],
+        cells[start + 4],
+        cells[start + 5],
+    )?;
+    print(out, b"\n")
 }
 
 // The group's letter, of which the table has the byte.
-fn print_group(group: u64) {
+fn print_group<W: Write>(out: &mut W, group: u64) -> io::Result<()> {
     match group {
-        65 => print(b"A"),
-        73 => print(b"I"),
-        _ => print(b"T"),
+        65 => print(out, b"A"),
+        73 => print(out, b"I"),
+        _ => print(out, b"T"),
     }
 }
 
-fn print_delay_kind(kind: u64) {
+fn print_delay_kind<W: Write>(out: &mut W, kind: u64) -> io::Result<()> {
     match kind {
-        1 => print(b"IOPATH"),
-        2 => print(b"INTERCONNECT"),
-        3 => print(b"PORT"),
-        _ => print(b"DEVICE"),
+        1 => print(out, b"IOPATH"),
+        2 => print(out, b"INTERCONNECT"),
+        3 => print(out, b"PORT"),
+        _ => print(out, b"DEVICE"),
     }
 }
 
-fn print_check_kind(kind: u64) {
+fn print_check_kind<W: Write>(out: &mut W, kind: u64) -> io::Result<()> {
     match kind {
-        11 => print(b"SETUP"),
-        12 => print(b"HOLD"),
-        13 => print(b"SETUPHOLD"),
-        14 => print(b"RECOVERY"),
-        15 => print(b"REMOVAL"),
-        16 => print(b"RECREM"),
-        17 => print(b"SKEW"),
-        18 => print(b"BIDIRECTSKEW"),
-        19 => print(b"WIDTH"),
-        20 => print(b"PERIOD"),
-        _ => print(b"NOCHANGE"),
+        11 => print(out, b"SETUP"),
+        12 => print(out, b"HOLD"),
+        13 => print(out, b"SETUPHOLD"),
+        14 => print(out, b"RECOVERY"),
+        15 => print(out, b"REMOVAL"),
+        16 => print(out, b"RECREM"),
+        17 => print(out, b"SKEW"),
+        18 => print(out, b"BIDIRECTSKEW"),
+        19 => print(out, b"WIDTH"),
+        20 => print(out, b"PERIOD"),
+        _ => print(out, b"NOCHANGE"),
     }
 }
 
 // The kind's keyword.
-fn print_kind(kind: u64) {
+fn print_kind<W: Write>(out: &mut W, kind: u64) -> io::Result<()> {
     if kind < 11 {
-        print_delay_kind(kind);
-        return;
+        return print_delay_kind(out, kind);
     }
-    print_check_kind(kind);
+    print_check_kind(out, kind)
 }
 
 // The edge's word, '- for a missing edge'.
-fn print_edge(edge: u64) {
+fn print_edge<W: Write>(out: &mut W, edge: u64) -> io::Result<()> {
     match edge {
-        1 => print(b"posedge"),
-        2 => print(b"negedge"),
-        3 => print(b"01"),
-        4 => print(b"10"),
-        5 => print(b"0z"),
-        6 => print(b"z1"),
-        7 => print(b"1z"),
-        8 => print(b"z0"),
-        _ => print(b"-"),
+        1 => print(out, b"posedge"),
+        2 => print(out, b"negedge"),
+        3 => print(out, b"01"),
+        4 => print(out, b"10"),
+        5 => print(out, b"0z"),
+        6 => print(out, b"z1"),
+        7 => print(out, b"1z"),
+        8 => print(out, b"z0"),
+        _ => print(out, b"-"),
     }
 }
 
 // An edge and its end: 'names as written, - for a missing edge or end'. A missing end stands from 0 to 0, where no name can stand.
-fn print_end(text: &[u8], edge: u64, from: u64, to: u64) {
-    print(b" ");
-    print_edge(edge);
-    print(b" ");
+fn print_end<W: Write>(out: &mut W, text: &[u8], edge: u64, from: u64, to: u64) -> io::Result<()> {
+    print(out, b" ")?;
+    print_edge(out, edge)?;
+    print(out, b" ")?;
     if to == 0 {
-        print(b"-");
-        return;
+        return print(out, b"-");
     }
-    print_part(text, from, to);
+    print_part(out, text, from, to)
 }
 
 // A time in two's complement, '_ for absent', which is the least number.
-fn print_time(word: u64) {
+fn print_time<W: Write>(out: &mut W, word: u64) -> io::Result<()> {
     if word < 0x8000000000000000 {
-        print_number(word);
-        return;
+        return print_number(out, word);
     }
     if word == 0x8000000000000000 {
-        print(b"_");
-        return;
+        return print(out, b"_");
     }
-    print(b"-");
-    print_number(0xFFFFFFFFFFFFFFFF - word + 1);
+    print(out, b"-")?;
+    print_number(out, 0xFFFFFFFFFFFFFFFF - word + 1)
 }
 
 // A value: its minimum, typical and maximum.
-fn print_value(min: u64, typ: u64, max: u64) {
-    print(b" ");
-    print_time(min);
-    print(b":");
-    print_time(typ);
-    print(b":");
-    print_time(max);
+fn print_value<W: Write>(out: &mut W, min: u64, typ: u64, max: u64) -> io::Result<()> {
+    print(out, b" ")?;
+    print_time(out, min)?;
+    print(out, b":")?;
+    print_time(out, typ)?;
+    print(out, b":")?;
+    print_time(out, max)
 }
 
 // The first count values of an entry, whose words begin at start.
-fn print_values(entries: &[u64], start: usize, count: usize)
+fn print_values<W: Write>(
+    out: &mut W,
+    entries: &[u64],
+    start: usize,
+    count: usize,
+) -> io::Result<()>
     requires { start + 3 * count ≤ length entries.now }
 {
-    let mut i: usize = 0;
-    while i < count {
+    for i in 0..count {
         let word = start + 3 * i;
-        print_value(entries[word], entries[word + 1], entries[word + 2]);
-        i += 1;
+        print_value(out, entries[word], entries[word + 1], entries[word + 2])?;
     }
+    Ok(())
 }
 
 // 'group, kind, edge, end, edge, end, values'. The entry's 28 words begin at start.
-fn print_entry(text: &[u8], entries: &[u64], start: usize)
+fn print_entry<W: Write>(out: &mut W, text: &[u8], entries: &[u64], start: usize) -> io::Result<()>
     requires { start + 28 ≤ length entries.now }
 {
-    print_group(entries[start + 1]);
-    print(b" ");
-    print_kind(entries[start]);
+    print_group(out, entries[start + 1])?;
+    print(out, b" ")?;
+    print_kind(out, entries[start])?;
     print_end(
+        out,
         text,
         entries[start + 3],
         entries[start + 4],
         entries[start + 5],
-    );
+    )?;
     print_end(
+        out,
         text,
         entries[start + 6],
         entries[start + 7],
         entries[start + 8],
-    );
+    )?;
     let count = entries[start + 9] as usize;
     if count <= 6 {
-        print_values(entries, start + 10, count);
+        print_values(out, entries, start + 10, count)?;
     }
-    print(b"\n");
+    print(out, b"\n")
 }
 
 // The entries from number first up to number last, counted from 0.
-fn print_entries(text: &[u8], entries: &[u64], first: usize, last: usize)
+fn print_entries<W: Write>(
+    out: &mut W,
+    text: &[u8],
+    entries: &[u64],
+    first: usize,
+    last: usize,
+) -> io::Result<()>
     requires { 28 * last ≤ length entries.now }
 {
-    let mut i = first;
-    while i < last {
-        print_entry(text, entries, 28 * i);
-        i += 1;
+    for i in first..last {
+        print_entry(out, text, entries, 28 * i)?;
     }
+    Ok(())
 }
 
 // The number behind a cell's last entry, where its first one has number first and the file has so many entries in all.
@@ -218,45 +236,51 @@ fn entries_end(cells: &[u64], start: usize, first: usize, all: usize) -> usize
 }
 
 // The first count cells, each with its entries behind it; the file has so many entries in all.
-fn print_cells(text: &[u8], cells: &[u64], entries: &[u64], count: usize, all: usize)
+fn print_cells<W: Write>(
+    out: &mut W,
+    text: &[u8],
+    cells: &[u64],
+    entries: &[u64],
+    count: usize,
+    all: usize,
+) -> io::Result<()>
     requires { (7 * count ≤ length cells.now) × (28 * all ≤ length entries.now) }
 {
-    let mut i: usize = 0;
-    let mut first: usize = 0;
-    while i < count {
-        print_cell(text, cells, 7 * i);
+    let mut first = 0;
+    for i in 0..count {
+        print_cell(out, text, cells, 7 * i)?;
         let last = entries_end(cells, 7 * i, first, all);
-        print_entries(text, entries, first, last);
+        print_entries(out, text, entries, first, last)?;
         first = last;
-        i += 1;
     }
+    Ok(())
 }
 
 // The listing of a text: 'room for 64 cells and 256 entries', of 7 and 28 words.
-fn list(text: &[u8]) {
+fn list<W: Write>(out: &mut W, text: &[u8]) -> io::Result<()> {
     let mut cells = [0u64; 448];
     let mut entries = [0u64; 7168];
     let read = read_file(text, &mut cells, &mut entries);
     let answer = read.answer;
     match answer {
-        Answer::Refused { number, place } => print_refusal(number, place),
+        Answer::Refused { number, place } => print_refusal(out, number, place),
         Answer::Read {
             cells: n,
             entries: m,
         } => {
-            print_counts(n, m);
-            print_cells(text, &cells, &entries, n, m);
+            print_counts(out, n, m)?;
+            print_cells(out, text, &cells, &entries, n, m)
         }
     }
 }
 
 // 'takes standard input up to 65,536 bytes (longer: refusal 1 at 0)': one byte more than that is asked for, to see whether it is longer.
-fn main() {
-    let mut text = [0u8; 65537];
-    let n = io::read_full(STDIN_FILENO, &mut text);
-    if 65536 < n {
-        print_refusal(1, 0);
-        return;
+fn main(rt: HostRuntime) -> io::Result<()> {
+    let mut text = Vec::new(rt.alloc());
+    rt.reader().take(65537).read_to_end(&mut text)?;
+    let mut out = io::writer(&rt);
+    if 65536 < text.len() {
+        return print_refusal(&mut out, 1, 0);
     }
-    list(&text[..n]);
+    list(&mut out, &text)
 }

@@ -1,5 +1,5 @@
 -- `boomcrutch::boomcrutch_annotate` meets its contract.
-use mathlib.Core.Path.{◌∙◌}
+use Rattle.std.proofs.Common.{◌∙◌}
 use Rattle.answers.specs.Exports.{same-annotated}
 use Rattle.boomcrutch.proofs.boomcrutch_annotate.Goals as goal
 

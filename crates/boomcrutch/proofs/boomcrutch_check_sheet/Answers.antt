@@ -1,5 +1,5 @@
 -- `boomcrutch::boomcrutch_check_sheet` meets its contract.
-use mathlib.Core.Path.{◌∙◌, ap}
+use Rattle.std.proofs.Common.{◌∙◌, ap}
 use Rattle.answers.specs.Exports.{sheet_numbers}
 use Rattle.boomcrutch.proofs.boomcrutch_check_sheet.Goals as goal
 

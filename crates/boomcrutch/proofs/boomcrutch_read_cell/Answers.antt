@@ -1,7 +1,5 @@
 -- `boomcrutch::boomcrutch_read_cell` meets its contract: the reader's, behind the tests of the divider and the time scale.
-use mathlib.Core.Path.{refl}
-use lib.ListN.{length}
-use Prim.Native.Nat.{◌/◌}
+use Rattle.std.proofs.Common.{refl, length, ◌/◌}
 use Rattle.answers.specs.Exports.{same_left, no_divider, no_scale, cell-by}
 use Rattle.boomcrutch.proofs.boomcrutch_read_cell.Goals as goal
 

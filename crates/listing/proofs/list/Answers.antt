@@ -1,9 +1,5 @@
 -- `list` is safe: the cells and entries that the reader counts are the records that it left in the tables, so none lies beyond their end.
-use mathlib.Core.Path.{◌≡◌, ap, sym, ◌∙◌}
-use mathlib.Core.List.{List}
-use Prim.Native.Nat.{ℕ, ◌*◌, ◌≤◌}
-use native.Mathlib.Omega.{arith}
-use lib.ListN.{length, drop, length-append}
+use Rattle.std.proofs.Common.{◌≡◌, ap, sym, ◌∙◌, List, ℕ, ◌*◌, ◌≤◌, length, drop, length-append, arith}
 use Rattle.grammar.specs.Machine.{Res, fine, bad}
 use Rattle.grammar.specs.Reading.{At}
 use Rattle.tables.specs.Layout.{cell_rows, entry_rows, length-cells, length_entries}
@@ -50,5 +46,5 @@ within o u u' t t' r n m f e =
     (rw (cells, f.cells) (cells-within o u), rw (entries, f.entries) (entries_within o t))
 
 pub print_cells-requires : goal.print_cells-requires
-print_cells-requires c =
+print_cells-requires g c =
     within _ _ _ _ _ _ _ _ c.read_file-read.ensures c.in-Read.is
