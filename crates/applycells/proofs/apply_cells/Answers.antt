@@ -8,6 +8,11 @@ use Rattle.meaning.specs.Cells.{entries_before, entries_within}
 use Rattle.applycells.specs.CellLaws.{cells-none, cells-more, cells-stop, cells_end}
 use Rattle.applycells.proofs.apply_cells.Goals as goal
 
+pub overflow_add-first-in-loop-k : goal.overflow_add-first-in-loop-k
+overflow_add-first-in-loop-k c =
+    let w = entries_within c.args.cells.now c.loop-k.k c.args.count (omega arith) in
+    omega (arith, w, c.loop-k.invariant.1, c.requires.3)
+
 pub loop-k-init : goal.loop-k-init
 unfolding entries_before
 loop-k-init c = (

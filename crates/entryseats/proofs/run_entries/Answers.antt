@@ -9,6 +9,26 @@ use Rattle.nearby.specs.Laws.{seats_unwanted, entries_none, entries_more, entrie
 use Rattle.entryseats.proofs.run_entries.Goals as goal
 use Rattle.entryseats.proofs.run_entries.Goals.{then-is_wanted, else-is_wanted}
 
+pub overflow_add-row : goal.overflow_add-row
+overflow_add-row c =
+    omega (arith, c.loop-k-test.true, c.requires.4)
+
+pub overflow_mul-row : goal.overflow_mul-row
+overflow_mul-row c =
+    omega (arith, c.loop-k-test.true, c.requires.4)
+
+pub overflow_add-result-then-number-ne0 : goal.overflow_add-result-then-number-ne0
+overflow_add-result-then-number-ne0 c =
+    omega (arith, c.loop-k-test.true, c.requires.4)
+
+pub offset_bounds-entries-row : goal.offset_bounds-entries-row
+offset_bounds-entries-row c =
+    omega (arith, c.loop-k-test.true, c.requires.4)
+
+pub bounds-entries-row : goal.bounds-entries-row
+bounds-entries-row c =
+    omega (arith, c.loop-k-test.true, c.requires.4)
+
 pub loop-k-init : goal.loop-k-init
 loop-k-init c =
     (omega arith, refl, entries_none c.args.start.now (pick c.args.side c.args.incoming.now c.args.file.now) c.args.plan.slash c.args.plan.instances c.args.plan.arcs c.args.plan.first c.args.side c.args.entries.now c.args.first c.args.some c.args.whom c.args.celltype.now c.args.event c.args.arcs.now c.args.flags.now c.args.states.now c.args.count)

@@ -7,6 +7,10 @@ use lib.ListN.{length, get_or, drop, length-set, length-drop}
 use lib.Seq.{take-suc-set, take-suc, take_all, get_or-drop}
 use Rattle.oneseat.proofs.load.Goals as goal
 
+pub overflow_add-part : goal.overflow_add-part
+overflow_add-part c =
+    omega (arith, c.requires, c.loop-k.invariant.2)
+
 pub loop-k-init : goal.loop-k-init
 loop-k-init c = (omega arith, refl, refl)
 

@@ -2,6 +2,11 @@
 use mathlib.Core.Path.{◌≡◌, refl}
 use lib.ListN.{length}
 use Rattle.oneseat.proofs.run_seat.Goals as goal
+use native.Mathlib.Omega.{arith}
+
+pub overflow_mul-seat-then-number-eq0 : goal.overflow_mul-seat-then-number-eq0
+overflow_mul-seat-then-number-eq0 c =
+    omega (arith, c.requires.5)
 
 pub returns-then-number-eq0 : goal.returns-then-number-eq0
 returns-then-number-eq0 c =

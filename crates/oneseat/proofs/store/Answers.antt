@@ -6,6 +6,10 @@ use lib.ListN.{length, length-set}
 use lib.Seq.{paste-zero, paste-suc}
 use Rattle.oneseat.proofs.store.Goals as goal
 
+pub overflow_add-table : goal.overflow_add-table
+overflow_add-table c =
+    omega (arith, c.requires)
+
 pub loop-k-init : goal.loop-k-init
 loop-k-init c =
     (omega arith, paste-zero c.args.table.now c.args.at c.args.part.now, refl)

@@ -5,6 +5,28 @@ use native.Mathlib.Omega.{arith}
 use lib.ListN.{get_or}
 use Rattle.patch.specs.PatchLaws.{cell_unread, none_come, cell_ready, cell_read, one-comes}
 use Rattle.patch.proofs.patch_cell.Goals as goal
+use Rattle.meaning.specs.Cells.{entries_within}
+
+pub count_entries-requires : goal.count_entries-requires
+count_entries-requires c =
+    let w = entries_within c.args.cells.now c.args.outgoing c.args.count c.requires.4 in
+    (omega (arith, c.requires.2, c.requires.4), omega (arith, w, c.requires.3))
+
+pub overflow_mul-swap : goal.overflow_mul-swap
+overflow_mul-swap c =
+    omega (arith, c.requires.2, c.requires.4)
+
+pub overflow_add-swap : goal.overflow_add-swap
+overflow_add-swap c =
+    omega (arith, c.requires.2, c.requires.4)
+
+pub offset_bounds-cells-outgoing : goal.offset_bounds-cells-outgoing
+offset_bounds-cells-outgoing c =
+    omega (arith, c.requires.2, c.requires.4)
+
+pub bounds-cells-outgoing : goal.bounds-cells-outgoing
+bounds-cells-outgoing c =
+    omega (arith, c.requires.2, c.requires.4)
 
 pub bounds-cells2-6 : goal.bounds-cells2-6
 bounds-cells2-6 c =

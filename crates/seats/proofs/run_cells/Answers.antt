@@ -4,9 +4,37 @@ use mathlib.Core.Path.{refl, ◌∙◌, ap}
 use native.Mathlib.Omega.{arith}
 use native.Mathlib.Numerals.{add-one}
 use lib.ListN.{get_or}
-use Rattle.meaning.specs.Cells.{entries_before}
+use Rattle.meaning.specs.Cells.{entries_before, entries_within}
 use Rattle.nearby.specs.Laws.{all_none, all_more, all-stop, all_end}
 use Rattle.seats.proofs.run_cells.Goals as goal
+
+pub run_seats-least-requires : goal.run_seats-least-requires
+run_seats-least-requires c =
+    let w = entries_within c.args.cells.now c.loop-k.k c.args.to (omega arith) in
+    (c.requires.0, c.requires.1, c.requires.2, c.requires.3, c.requires.4, c.requires.5, omega (arith, c.requires.6, c.loop-k.invariant.5), omega (arith, c.requires.7), omega (arith, w, c.loop-k.invariant.2, c.requires.9), omega (arith, w, c.loop-k.invariant.2, c.loop-k.invariant.3, c.requires.7, c.requires.9, c.requires.10))
+
+pub overflow_add-some : goal.overflow_add-some
+overflow_add-some c =
+    omega (arith, c.requires.7)
+
+pub offset_bounds-cells-row : goal.offset_bounds-cells-row
+offset_bounds-cells-row c =
+    omega (arith, c.requires.7)
+
+pub overflow_add-first : goal.overflow_add-first
+overflow_add-first c =
+    let w = entries_within c.args.cells.now c.loop-k.k c.args.to (omega arith) in
+    omega (arith, w, c.loop-k.invariant.2, c.requires.9)
+
+pub overflow_add-event : goal.overflow_add-event
+overflow_add-event c =
+    let w = entries_within c.args.cells.now c.loop-k.k c.args.to (omega arith) in
+    omega (arith, w, c.loop-k.invariant.2, c.requires.9)
+
+pub overflow_add-event-in-loop-k : goal.overflow_add-event-in-loop-k
+overflow_add-event-in-loop-k c =
+    let w = entries_within c.args.cells.now c.loop-k.k c.args.to (omega arith) in
+    omega (arith, w, c.loop-k.invariant.2, c.loop-k.invariant.3, c.requires.7, c.requires.9, c.requires.10)
 
 pub loop-k-init : goal.loop-k-init
 loop-k-init c =

@@ -4,6 +4,22 @@ use Rattle.sheet.specs.Find.{sheet_good, arcs_ready, instances_ready}
 use Rattle.ownfaults.specs.OwnLaws.{own_least}
 use Rattle.swap.specs.SwapLaws.{MoversAre, movers, swap_answered}
 use Rattle.swap.proofs.swap_cell.Goals as goal
+use native.Mathlib.Omega.{arith}
+use Rattle.swaparcs.specs.Turns.{events_fit}
+
+pub overflow_add-at : goal.overflow_add-at
+overflow_add-at c =
+    let fit = events_fit c.requires.1 (omega (arith)) (omega (arith)) (omega (arith)) in
+    omega (arith, fit)
+
+pub own_fault-own-requires : goal.own_fault-own-requires
+own_fault-own-requires c =
+    let fit = events_fit c.requires.1 (omega (arith)) (omega (arith)) (omega (arith)) in
+    (rw c.mark_instances.ensures (instances_ready c.args.start.now c.args.plan.instances c.args.plan.arcs c.args.plan.first _ (sheet_good c.args.start.now c.args.plan.instances c.args.plan.arcs c.args.plan.first c.requires.0) (search rules)), rw c.mark_arcs.ensures (arcs_ready c.args.start.now c.args.plan.instances c.args.plan.arcs c.args.plan.first _ (sheet_good c.args.start.now c.args.plan.instances c.args.plan.arcs c.args.plan.first c.requires.0) (search rules)), c.requires.1.room2, omega (arith, c.requires.1.coming, c.requires.1.entries_room2), omega (arith, fit, c.requires.1.coming))
+
+pub overflow_mul-swap : goal.overflow_mul-swap
+overflow_mul-swap c =
+    omega (arith, c.requires.1.room, c.requires.1.there)
 
 pub mark_instances-requires : goal.mark_instances-requires
 mark_instances-requires c =

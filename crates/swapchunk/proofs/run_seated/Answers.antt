@@ -1,7 +1,16 @@
 -- `swapchunk::run_seated` meets its contract.
-use mathlib.Core.Path.{sym, ◌∙◌}
+use mathlib.Core.Path.{sym, ◌∙◌, refl}
 use Rattle.seating.specs.Through.{through_before, front_ran}
 use Rattle.swapchunk.proofs.run_seated.Goals as goal
+use native.Mathlib.Omega.{arith}
+use Rattle.meaning.specs.Cells.{entries_before}
+use Rattle.swaparcs.specs.Turns.{front-room, events_fit}
+
+pub run_cells-front-requires : goal.run_cells-front-requires
+unfolding entries_before
+run_cells-front-requires c =
+    let fit = events_fit c.requires.2 (omega (arith)) (omega (arith)) (omega (arith)) in
+    (c.requires.0, c.requires.1, c.requires.4, c.requires.5, c.requires.6, omega (arith, c.requires.6, c.requires.7), omega (arith, c.requires.6, c.requires.8), omega (arith, c.requires.2.room, c.requires.2.there), refl, front-room c.requires.2, omega (arith, fit, c.requires.2.before))
 
 pub returns-then-is_fault : goal.returns-then-is_fault
 returns-then-is_fault c =
