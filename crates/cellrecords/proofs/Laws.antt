@@ -1,5 +1,5 @@
 -- A slice after k turns of a fill: the first k things of a numbered row, and the rest as lent.
-use Rattle.std.proofs.Common.{◌≡◌, refl, sym, ap, ◌∙◌, List, ◌++◌, ℕ, zero, suc, ◌+◌, ◌<◌, ◌≤◌, length, set, drop, arith, add-one, length-append, length-drop, drop-cons}
+use Rattle.std.proofs.Common.{◌≡◌, refl, sym, ap, ◌∙◌, List, ◌++◌, ℕ, zero, suc, ◌+◌, ◌<◌, length, set, drop, arith, add-one, length-append, drop-cons}
 use Rattle.std.proofs.Math.Seq.{set_at, append_snoc}
 use Rattle.cellrecords.specs.Records.{first_of}
 
@@ -16,9 +16,6 @@ module _ {A : Type 0} (of : ℕ → A) where
     pub zs_none : ys ≡ zs 0
     unfolding first_of
     zs_none = refl
-
-    pub length_zs : (k : ℕ) → k ≤ length ys → length (zs k) ≡ length ys
-    length_zs k h = let e = length-first k in simp (length-append, length-drop) (omega arith)
 
     zs_more : (k : ℕ) → k < length ys → (none : A) → set (zs k) k (of k) ≡ zs (suc k)
     unfolding first_of

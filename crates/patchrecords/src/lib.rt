@@ -1,4 +1,6 @@
 // The cell lists of a patch lent as records: a thin function above the core's patch.
+#![tactic(auto)]
+
 ghost use Rattle.std.specs.Prelude.{◌/◌, length};
 ghost use Rattle.readrecords.specs.Reading.{room_for};
 ghost use Rattle.patch.specs.Meaning.{course};

@@ -1,4 +1,6 @@
 // patch, where only so many cells of each text have a record.
+#![tactic(auto)]
+
 ghost use Rattle.std.specs.Prelude.{◌≡◌, ◌/◌, ◌≤◌, length};
 ghost use Rattle.readrecords.specs.Reading.{room_for};
 ghost use Rattle.patch.specs.Meaning.{course};

@@ -1,4 +1,6 @@
 // The annotator, with the cell list lent as records too: a thin function over a slice of cells, above the tables of words that the core fills.
+#![tactic(auto)]
+
 ghost use Rattle.std.specs.Prelude.{◌≡◌, ◌*◌, ◌/◌, ◌<◌, length};
 ghost use Rattle.meaning.specs.Meaning.{course};
 ghost use Rattle.readrecords.specs.Reading.{room_for};

@@ -1,10 +1,5 @@
 -- `patchwithin::patch_incoming_within` meets its contract.
-use Prim.Native.Nat.{◌*◌, ◌/◌, ◌≤◌}
-use mathlib.Core.Path.{◌≡◌, sym}
-use native.Mathlib.Omega.{arith}
-use lib.ListN.{length, take}
-use lib.Seq.{length-take-le}
-use borrow.Author.Rules.{rules}
+use Rattle.std.proofs.Common.{◌*◌, ◌/◌, ◌≤◌, ◌≡◌, sym, arith, length, take, length-take-le, rules}
 use Rattle.patch.specs.Meaning.{course}
 use Rattle.patchwithin.specs.PatchingLaws.{cell-part, cell-whole}
 use Rattle.patchwithin.proofs.patch_incoming_within.Goals as goal

@@ -1,10 +1,5 @@
 -- `records::annotate_within` meets its contract.
-use Prim.Native.Nat.{◌*◌, ◌/◌, ◌≤◌}
-use mathlib.Core.Path.{◌≡◌, sym}
-use native.Mathlib.Omega.{arith}
-use lib.ListN.{length, take}
-use lib.Seq.{length-take-le}
-use borrow.Author.Rules.{rules}
+use Rattle.std.proofs.Common.{◌*◌, ◌/◌, ◌≤◌, ◌≡◌, sym, arith, length, take, length-take-le, rules}
 use Rattle.records.specs.AnnotatingLaws.{counted_part, counted_whole}
 use Rattle.records.proofs.annotate_within.Goals as goal
 
