@@ -1,5 +1,7 @@
 // The values of one arc, and what an entry supplies to them. A value is a word as on the sheet and in the tables: femtoseconds in two's
 // complement, and the least number for one that is empty or absent.
+#![tactic(auto)]
+
 ghost use Rattle.std.specs.Prelude.{◌≡◌, ◌+◌, ◌*◌, ◌<◌, ◌≤◌, length};
 ghost use Rattle.amounts.specs.Amounts.{near, refusal, changed, lesser, arc_refusal, value_written, arc_written, choice, value_row, expanded};
 

@@ -1,4 +1,6 @@
 // Annotating: a timing sheet is made from a starting sheet and a text (document 01, 'Annotating').
+#![tactic(auto)]
+
 ghost use Rattle.std.specs.Prelude.{◌≡◌, ◌+◌, ◌*◌, ◌/◌, ◌≤◌, length};
 ghost use Rattle.sheetparts.specs.Form.{check_of};
 ghost use Rattle.sheetparts.specs.declared.SheetCheck.TheVariants.{Good};

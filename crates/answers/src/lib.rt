@@ -1,4 +1,6 @@
 // The answers of the static library: what each function answers, in numbers.
+#![tactic(auto)]
+
 ghost use Rattle.std.specs.Prelude.{◌≡◌, false, replicate};
 ghost use Rattle.classes.specs.Choice.{pick};
 ghost use Rattle.answers.specs.Exports.{file_numbers, sheet_numbers, result_of, patched_of};

@@ -1,5 +1,7 @@
 // One entry of a text, applied to a sheet: in the instance that its cell names, or in every instance of the cell's type. Everything is looked
 // up in the starting sheet; what is judged and written is `out`, a sheet with the same records.
+#![tactic(auto)]
+
 ghost use Rattle.std.specs.Prelude.{◌≡◌, ◌+◌, ◌<◌};
 ghost use Rattle.sheet.specs.Find.{ArcSearch};
 ghost use Rattle.applying.specs.Bytes.{refusal_in, written_in, refusal_every, written_every, applied_in, applied_every};

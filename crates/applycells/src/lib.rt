@@ -1,4 +1,6 @@
 // The entries of a cell, and the cells of a text, applied to a sheet one after the other.
+#![tactic(auto)]
+
 ghost use Rattle.std.specs.Prelude.{◌≡◌, ◌+◌, ◌*◌, ◌≤◌, length, get_or};
 ghost use Rattle.sheet.specs.Find.{InstanceSearch};
 ghost use Rattle.bytype.specs.ByType.{IndexReady};

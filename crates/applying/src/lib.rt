@@ -1,1 +1,2 @@
 // What a text's cells do to a sheet, in bytes: definitions and laws for the annotator and the patch. No code.
+#![tactic(auto)]

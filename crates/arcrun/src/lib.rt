@@ -1,5 +1,7 @@
 // One arc and the entries of two texts, the old file and the incoming cell: its 18 values run through them. `side` tells which text a table
 // belongs to: false the file, true the incoming cell.
+#![tactic(auto)]
+
 ghost use Rattle.std.specs.Prelude.{◌≡◌, [], ◌∷◌, ◌+◌, ◌≤◌, ◌<◌, length};
 ghost use Rattle.classes.specs.Choice.{pick};
 ghost use Rattle.sheetlaws.specs.Sheet.{ar_next};

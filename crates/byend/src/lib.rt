@@ -1,4 +1,6 @@
 // An index of a sheet's arcs by their second end without its last component, made once where a text has a DEVICE.
+#![tactic(auto)]
+
 ghost use Rattle.std.specs.Prelude.{◌≡◌, true, false, ℕ, ◌+◌, ◌≤◌, ◌<◌, length, get_or};
 ghost use Rattle.sheetlaws.specs.Sheet.{place};
 ghost use Rattle.sheet.specs.Find.{ArcsGood};

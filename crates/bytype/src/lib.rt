@@ -1,4 +1,6 @@
 // An index of a sheet's instances by their type, made once: from a type to the instances in its bucket, one after the other.
+#![tactic(auto)]
+
 ghost use Rattle.std.specs.Prelude.{◌≡◌, ℕ, ◌+◌, ◌*◌, ◌≤◌, ◌<◌, length, get_or};
 ghost use Rattle.sheet.specs.Find.{InsGood};
 ghost use Rattle.bytype.specs.Chains.{Noted, head_place, Chained};

@@ -1,4 +1,6 @@
 // The reader of what stands at the head of a cell: its type and its instance.
+#![tactic(auto)]
+
 ghost use Rattle.std.specs.Prelude.{◌+◌, ◌-◌, ◌≤◌, length};
 ghost use Rattle.cellhead.specs.Heads.{InstanceRead, PathBehind, HeadRead};
 

@@ -1,4 +1,6 @@
 // Cells in a lent slice of records: how many it has room for, the one at a number, and as many of them as a table of cells has rows.
+#![tactic(auto)]
+
 ghost use Rattle.std.specs.Prelude.{◌≡◌, ◌++◌, ◌+◌, ◌*◌, ◌≤◌, ◌<◌, length, get_or, set, drop};
 ghost use Rattle.cellrecords.specs.Records.{no_record, record_of, records_of};
 

@@ -1,4 +1,6 @@
 // The readers of cells. They go through a text twice: first to judge it, with fill false, when nothing is written; then to fill the tables.
+#![tactic(auto)]
+
 ghost use Rattle.std.specs.Prelude.{◌≡◌, true, false, ◌+◌, ◌*◌, ◌-◌, ◌≤◌, ◌<◌, length, take};
 ghost use Rattle.classes.specs.Choice.{pick};
 ghost use Rattle.rules.specs.Promises.{Listable, item};

@@ -1,4 +1,6 @@
 // The marked arcs get seats in the sheet's order, up to 4,096 at a time.
+#![tactic(auto)]
+
 ghost use Rattle.std.specs.Prelude.{◌≡◌, ◌+◌, ◌≤◌, ◌<◌, length};
 ghost use Rattle.sheetlaws.specs.Sheet.{place};
 ghost use Rattle.sheet.specs.Find.{ArcsGood};

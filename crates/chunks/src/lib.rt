@@ -1,4 +1,6 @@
 // The arcs in question part by part: first judged, then written.
+#![tactic(auto)]
+
 ghost use Rattle.std.specs.Prelude.{◌≡◌, length};
 ghost use Rattle.swaparcs.specs.Loops.{ArcsRan, ArcsWritten};
 ghost use Rattle.seating.specs.Seating.{SwapFits, MarksCover};

@@ -4,7 +4,7 @@
 use Rattle.std.specs.Prelude.{ℕ, ◌≤◌, ◌<◌, ◌≡◌, refl, Bool, true, false, not, ◌⊎◌, List, eqb, leb, get_or, replicate}
 use Rattle.std.proofs.Common.{zero-le, zero-add, arith, sym, ap, ◌∙◌, true≢false, inl, inr, ⊎_elim, ne_eqb, eq-eqb, leb-true, leb-false}
 use Rattle.std.proofs.lemmas.Bool.{lt-leb}
-use Rattle.classes.specs.Choice.{pick, or, and, within}
+use Rattle.classes.specs.Choice.{pick, and, within}
 use Rattle.classes.specs.Each.{each, each_at, between}
 use Rattle.classes.specs.Classes.{is_white, is_legal, is_plain, class_of, mark_of}
 

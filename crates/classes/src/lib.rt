@@ -1,5 +1,7 @@
 // The class of a byte, by comparisons against document 01's ranges, in the order and the words of its 'Bytes and words'; and the questions that
 // the loops over a text ask of every byte, each about a single class.
+#![tactic(auto)]
+
 ghost use Rattle.std.specs.Prelude.{◌≡◌, eqb};
 ghost use Rattle.classes.specs.Choice.{within};
 ghost use Rattle.classes.specs.Classes.{is_legal, is_letter, is_digit, class_of, mark_of};

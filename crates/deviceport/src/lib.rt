@@ -1,4 +1,6 @@
 // Which DEVICE entries the index of second ends serves, and the arc at a place of its chains.
+#![tactic(auto)]
+
 ghost use Rattle.std.specs.Prelude.{◌≡◌, true, false, ◌≤◌, ◌<◌, length, get_or};
 ghost use Rattle.sheetlaws.specs.Sheet.{in_end, place};
 ghost use Rattle.sheet.specs.Find.{ArcSearch};

@@ -1,4 +1,6 @@
 // An entry in one instance, where DEVICE finds its arcs by the index of the arcs by their second end.
+#![tactic(auto)]
+
 ghost use Rattle.std.specs.Prelude.{◌≡◌, true, false, ◌≤◌, ◌<◌};
 ghost use Rattle.sheet.specs.Find.{ArcSearch};
 ghost use Rattle.byend.specs.Ends.{EndsIndexed, EndsReady};

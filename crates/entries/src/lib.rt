@@ -1,5 +1,7 @@
 // The readers of entries: recursive descent over the tokens of a text. Each contract is an equation between readings
 // (rules/specs/Promises.antt). Every reader takes the text and the place from which to read.
+#![tactic(auto)]
+
 ghost use Rattle.std.specs.Prelude.{◌≡◌, true, false, [], ◌∷◌, ◌-◌, ◌≤◌, ◌<◌, length, take};
 ghost use Rattle.grammar.specs.Ll.{non};
 ghost use Rattle.grammar.specs.Grammar.{second, iopath_tail, interconnect_tail, port_tail, two_ends, device, delay, check, end?};

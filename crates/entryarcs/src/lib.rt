@@ -1,4 +1,6 @@
 // Which arcs an entry means on a sheet: the arc of its names, the arcs of a DEVICE, the instances of a type.
+#![tactic(auto)]
+
 ghost use Rattle.std.specs.Prelude.{◌≡◌, true, false, ◌+◌, ◌≤◌, ◌<◌, length};
 ghost use Rattle.names.specs.Order.{same_text};
 ghost use Rattle.sheetparts.specs.Form.{type_at};

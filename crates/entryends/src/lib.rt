@@ -1,4 +1,6 @@
 // The readers of an entry's ends: ports, with an edge or without.
+#![tactic(auto)]
+
 ghost use Rattle.std.specs.Prelude.{true, ◌-◌, ◌≤◌, ◌<◌, length};
 ghost use Rattle.tokens.specs.Stream.{placed};
 ghost use Rattle.grammar.specs.Grammar.{second};

@@ -1,4 +1,6 @@
 // The entry list lent as records: a thin function over a slice of entries, above the table of words that the core fills.
+#![tactic(auto)]
+
 ghost use Rattle.std.specs.Prelude.{◌≡◌, ◌++◌, ◌+◌, ◌*◌, ◌≤◌, length, drop};
 ghost use Rattle.entryrecords.specs.Entries.{numbers_at, entry_of, entries_of};
 

@@ -1,4 +1,6 @@
 // The seat whose arc an entry means: the arc is looked up in the sheet, and its place among the seats, which stand in the sheet's order.
+#![tactic(auto)]
+
 ghost use Rattle.std.specs.Prelude.{◌≡◌, false, List, ℕ, ◌≤◌, eqb, length};
 ghost use Rattle.classes.specs.Choice.{pick};
 ghost use Rattle.sheetlaws.specs.Sheet.{in_end};

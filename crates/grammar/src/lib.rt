@@ -1,4 +1,5 @@
 // What a reading hands over: values, entries, and the answers of the readers. No code: the definitions speak of these.
+#![tactic(auto)]
 
 // 'each of the three numbers is supplied or absent': one of them, in femtoseconds.
 #[derive(Clone, Copy)]

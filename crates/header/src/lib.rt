@@ -1,6 +1,8 @@
 // The reader of a file's header: what stands before the first cell. The token behind each opening bracket is taken in hand, and handed
 // from one optional entry to the next; an entry whose keyword it is reads on, and takes the next such token in hand. A refusal is handed
 // on as it is. Each contract is an equation between readings (headsteps/specs/Steps.antt).
+#![tactic(auto)]
+
 ghost use Rattle.std.specs.Prelude.{◌≡◌, ◌≤◌, length};
 ghost use Rattle.rules.specs.Promises.{InHand, HeaderRead};
 ghost use Rattle.headsteps.specs.Steps.{UnitRead, ScaleRead};

@@ -1,5 +1,7 @@
 // The readers of a header's parts: brackets, keywords, quoted texts, triples of numbers, the divider. Each contract is an equation between
 // readings (specs/Steps.antt).
+#![tactic(auto)]
+
 ghost use Rattle.std.specs.Prelude.{true, false, [], ◌∷◌, ◌≤◌, length};
 ghost use Rattle.tokens.specs.Stream.{placed};
 ghost use Rattle.grammar.specs.Grammar.{⟨, ⟩, bare, bare1, bare2, bare3};

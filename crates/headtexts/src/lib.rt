@@ -1,4 +1,6 @@
 // The texts of a header that was read.
+#![tactic(auto)]
+
 ghost use Rattle.std.specs.Prelude.{◌≡◌};
 ghost use Rattle.headtexts.specs.Texts.{text_of};
 

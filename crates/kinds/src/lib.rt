@@ -1,4 +1,6 @@
 // What an arc of each kind can carry (document 01, 'The part of SDF we carry' and 'The timing sheet').
+#![tactic(auto)]
+
 ghost use Rattle.std.specs.Prelude.{◌≡◌, ◌≤◌};
 ghost use Rattle.kinds.specs.Kinds.{is_delay, is_check, is_kind, has_edge, has_second, has_edge2, is_signed, rows_of};
 

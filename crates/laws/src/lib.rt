@@ -1,1 +1,2 @@
 // Laws about the definitions of crate grammar: no code.
+#![tactic(auto)]

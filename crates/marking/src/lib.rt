@@ -1,5 +1,7 @@
 // Which arcs the entries of a cell mean: each entry finds its arc by search and marks it in a table. There is a byte for each 128 bytes of the
 // longest sheet, so that no two arcs share one.
+#![tactic(auto)]
+
 ghost use Rattle.std.specs.Prelude.{◌≡◌, ◌+◌, ◌*◌, ◌/◌, ◌%◌, ◌≤◌, ◌<◌, length, set};
 ghost use Rattle.classes.specs.Choice.{pick};
 ghost use Rattle.sheetlaws.specs.Sheet.{in_end};

@@ -1,4 +1,6 @@
 // What annotating means, and whom a cell of a file means on a sheet.
+#![tactic(auto)]
+
 ghost use Rattle.std.specs.Prelude.{◌≡◌};
 ghost use Rattle.sheet.specs.Find.{InstanceSearch};
 ghost use Rattle.meaning.specs.Whom.{whom_of, InSheet};

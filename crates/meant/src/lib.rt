@@ -1,5 +1,7 @@
 // Whether an entry of one of two texts, the old file and the incoming cell, means an arc: asked of the arc. `side` tells which text a table
 // belongs to: false the file, true the incoming cell.
+#![tactic(auto)]
+
 ghost use Rattle.std.specs.Prelude.{◌≡◌, ◌≤◌, ◌<◌, length};
 ghost use Rattle.classes.specs.Choice.{pick};
 ghost use Rattle.sheetlaws.specs.Sheet.{in_end, ar_next};

@@ -1,4 +1,6 @@
 // Names of instances and of ports: their canonical form, their order, and where their bytes stand (document 01, 'Bytes and words').
+#![tactic(auto)]
+
 ghost use Rattle.std.specs.Prelude.{◌≡◌, false, ◌≤◌, length};
 ghost use Rattle.names.specs.Order.{cmp_num, cmp, front, same_text};
 ghost use Rattle.names.specs.Name.{turned, canon, full, same_name, start_behind, last_start, one_below, part_of, name_of_it};

@@ -1,4 +1,6 @@
 // The shape of names and of quoted texts (document 01, 'Bytes and words').
+#![tactic(auto)]
+
 ghost use Rattle.std.specs.Prelude.{◌≡◌, true, false, ◌≤◌, eqb, length};
 ghost use Rattle.classes.specs.Choice.{pick};
 ghost use Rattle.nameshape.specs.Shape.{is_name_byte, is_escapable, escapes, may_follow, divider, body_next, bracket_next, name_next, name_run, plain_run, may_end, is_path, is_port, is_text};

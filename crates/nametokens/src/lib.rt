@@ -1,4 +1,6 @@
 // Tokens where a name may stand: a word's shape as a name is judged while the word is scanned.
+#![tactic(auto)]
+
 ghost use Rattle.std.specs.Prelude.{◌≡◌, ◌≤◌, eqb, length};
 ghost use Rattle.classes.specs.Choice.{pick};
 ghost use Rattle.tokenforms.specs.Tokens.{token_at};

@@ -1,4 +1,6 @@
 // Cells and entries that can touch none of the seated arcs, found by the name that the arcs have in common.
+#![tactic(auto)]
+
 ghost use Rattle.std.specs.Prelude.{◌≡◌, true, false, ◌+◌, ◌≤◌, ◌<◌, length, take, eqb};
 ghost use Rattle.classes.specs.Choice.{pick};
 ghost use Rattle.names.specs.Name.{canon, part_of};

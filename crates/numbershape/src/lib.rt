@@ -1,4 +1,6 @@
 // The shape of a number, and what its digits make (document 01, 'Numbers and times').
+#![tactic(auto)]
+
 ghost use Rattle.std.specs.Prelude.{◌≡◌, ◌+◌, ◌-◌, ◌*◌, ◌≤◌, ◌<◌, min, eqb, length, drop};
 ghost use Rattle.classes.specs.Choice.{and};
 ghost use Rattle.numbershape.specs.Shape.{first, run, signs, lead, pointed, is_number};

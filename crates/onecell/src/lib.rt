@@ -1,4 +1,6 @@
 // The reader of a text that is one cell, as a re-issued one comes.
+#![tactic(auto)]
+
 ghost use Rattle.std.specs.Prelude.{true, false, ◌*◌, ◌-◌, ◌/◌, ◌≤◌, ◌<◌, length};
 ghost use Rattle.readcells.specs.Files.{FileIs};
 ghost use Rattle.onecell.specs.One.{OneRead};

@@ -1,4 +1,6 @@
 // One seat: its 18 flags and 144 bytes of values copied out of the tables, run through an entry, and copied back.
+#![tactic(auto)]
+
 ghost use Rattle.std.specs.Prelude.{◌≡◌, ◌+◌, ◌*◌, ◌≤◌, ◌<◌, length, take, drop};
 ghost use Rattle.std.proofs.Math.Seq.{paste};
 ghost use Rattle.classes.specs.Choice.{pick};

@@ -1,4 +1,6 @@
 // What the records alone refuse of a cell that comes into a file: 12 and 13 at its keyword, 14 at an entry (document 01, 'Patching').
+#![tactic(auto)]
+
 ghost use Rattle.std.specs.Prelude.{◌≡◌, ◌+◌, ◌*◌, ◌≤◌, ◌<◌, length, get_or};
 ghost use Rattle.sheet.specs.Find.{InsGood, InstanceSearch, ArcSearch};
 ghost use Rattle.meaning.specs.Whom.{InSheet};

@@ -1,4 +1,6 @@
 // Patching: one re-issued cell in a sheet that was annotated before (document 01, 'Patching'): its texts are read, then the cell is swapped.
+#![tactic(auto)]
+
 ghost use Rattle.std.specs.Prelude.{◌≡◌, true, ◌*◌, ◌/◌, ◌≤◌, ◌<◌, length};
 ghost use Rattle.sheetparts.specs.Form.{check_of};
 ghost use Rattle.sheetparts.specs.declared.SheetCheck.TheVariants.{Good};

@@ -1,4 +1,6 @@
 // The cells of a text, one after the other, into the lent tables; and what a reading answers.
+#![tactic(auto)]
+
 ghost use Rattle.std.specs.Prelude.{◌≡◌, true, false, ◌+◌, ◌*◌, ◌-◌, ◌≤◌, length, replicate};
 ghost use Rattle.classes.specs.Choice.{pick};
 ghost use Rattle.rules.specs.Promises.{InHand};

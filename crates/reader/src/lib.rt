@@ -1,4 +1,6 @@
 // The reader: a whole file, into tables that the caller lends.
+#![tactic(auto)]
+
 ghost use Rattle.std.specs.Prelude.{true, false, ◌*◌, ◌-◌, ◌/◌, ◌≤◌, ◌<◌, length};
 ghost use Rattle.readcells.specs.Files.{AllRead, FileIs};
 ghost use Rattle.grammar.specs.Outcome.{read_file};

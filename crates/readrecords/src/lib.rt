@@ -1,4 +1,6 @@
 // The reader, with the cell list lent as records too.
+#![tactic(auto)]
+
 ghost use Rattle.std.specs.Prelude.{◌≡◌, ◌*◌, ◌/◌, ◌<◌, length};
 ghost use Rattle.grammar.specs.Outcome.{read_file, read_cell_of};
 ghost use Rattle.readrecords.specs.Reading.{room_for, count_of, WithinIs, RecordsAre};

@@ -1,4 +1,6 @@
 // Small machines that scan a text: where a word ends, where blanks and comments end, where a quoted text ends.
+#![tactic(auto)]
+
 ghost use Rattle.std.specs.Prelude.{◌≡◌, ◌+◌, ◌≤◌, ◌<◌, eqb, length, get_or, drop};
 ghost use Rattle.classes.specs.Classes.{class_of};
 ghost use Rattle.scanning.specs.Scan.{scan_len};

@@ -1,4 +1,6 @@
 // The arcs in question seated: marked by both cells, their flags and values laid into the seats, and written back.
+#![tactic(auto)]
+
 ghost use Rattle.std.specs.Prelude.{◌≡◌, false, ◌≤◌, length, replicate};
 ghost use Rattle.findseat.specs.Findseat.{InOrder};
 ghost use Rattle.nearby.specs.Seats.{There};

@@ -1,5 +1,7 @@
 // The arcs with a touched slot, seated in tables of their own, run through the cells of a file together: each cell is looked at once for all of
 // them, and one that can touch none is passed by.
+#![tactic(auto)]
+
 ghost use Rattle.std.specs.Prelude.{◌≡◌, false, ◌+◌, ◌*◌, ◌≤◌, ◌<◌, length, get_or};
 ghost use Rattle.classes.specs.Choice.{pick};
 ghost use Rattle.sheet.specs.Find.{InstanceSearch, ArcSearch};

@@ -1,5 +1,7 @@
 // Use of a timing sheet that was checked: the search for an instance and for an arc, and whether two sheets have the same records
 // (document 01, 'The timing sheet', 'Annotating', refusal 18).
+#![tactic(auto)]
+
 ghost use Rattle.std.specs.Prelude.{◌≡◌, true, false, ◌+◌, ◌*◌, ◌/◌, ◌-◌, ◌≤◌, ◌<◌, ltb, eqb, length};
 ghost use Rattle.classes.specs.Choice.{pick};
 ghost use Rattle.wire.specs.Wire.{part};

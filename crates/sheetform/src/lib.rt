@@ -1,4 +1,6 @@
 // The check of a timing sheet, record by record (document 01, 'The timing sheet').
+#![tactic(auto)]
+
 ghost use Rattle.std.specs.Prelude.{◌≡◌, ◌+◌, ◌≤◌, length};
 ghost use Rattle.names.specs.Order.{cmp};
 ghost use Rattle.sheetparts.specs.Form.{reach, values_at, cmp_key, key_at, key_step, order_step, ar_rest, ar_fields, ar_step, arcs_step, path_len, path_at, path_step, in_order_step, in_fields, in_step, ins_step, head_step, end_step, front_step, back_step, verdict, check_of};

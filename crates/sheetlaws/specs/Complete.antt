@@ -1,9 +1,10 @@
 -- The encoding of what is well formed is read back, without a fault.
 -- Assumes nothing.
 use Prim.Native.Nat.{ℕ, suc, ◌+◌, ◌-◌, ◌*◌, ◌/◌, ◌%◌, ◌≤◌, ◌<◌}
-use Rattle.std.specs.Prelude.{◌≡◌, Bool, true, false, ℤ, take, drop}
+use Rattle.std.specs.Prelude.{◌≡◌, Bool, ℤ, take, drop}
 use Rattle.std.proofs.Math.Path.{refl, sym, ap}
 use Rattle.std.proofs.Common.{◌∙◌, length-append, length-drop, drop-drop, get_or-drop, take_at, drop_at, SFits, to_z, of_z}
+use Rattle.std.proofs.Math.Bool.{true, false}
 use mathlib.Core.List.{List, [], ◌∷◌, ◌++◌}
 use native.Mathlib.Omega.{arith}
 use Rattle.std.proofs.Math.Nat.{add-zero}
@@ -23,15 +24,6 @@ use Rattle.sheetparts.specs.declared.Step.TheVariants.{Next}
 pub split : (t : Bool) (x : Bool) → pick t x false ≡ true → (t ≡ true) × (x ≡ true)
 split true x e = (refl, e)
 split false x e = let z : ◌≡◌ {A = ℕ} 0 1 = cc in absurd (omega arith)
-
--- a second end has at most 2,049 bytes
-pub second_short : (k : ℕ) → second_most k ≤ 2049
-unfolding second_most
-second_short k = by (one_end k)
-  where
-    by : (t : Bool) → pick t 0 2049 ≤ 2049
-    by true = omega arith
-    by false = omega arith
 
 module _ (b : List ℕ) where
   pub un_byte : (p x : ℕ) (t : List ℕ) → drop p b ≡ x ∷ t → (get_or b p 0 ≡ x) × (drop (p + 1) b ≡ t) × (p < length b)
@@ -95,57 +87,13 @@ module _ (b : List ℕ) where
       → record { kind = n1; first = x; edge = n2; second = y; edge2 = n3 } ≡ k
   key_eq k n1 n2 n3 x y e1 e2 e3 e4 e5 = rw (e1, e2, e3, e4, e5)
 
-  -- the bytes of a key at p, and t behind them
-  pub record KeyBytes (p : ℕ) (k : Key) (t : List ℕ) : Type 0 where
-    pub mark : (get_or b p 0 ≡ 65) × (get_or b (p + 1) 0 ≡ 82)
-    pub kind : get_or b (p + 2) 0 ≡ k.kind
-    pub edge : get_or b (p + 3) 0 ≡ k.edge
-    pub first : (be16 b (p + 4) ≡ length k.first) × (part b (p + 6) (length k.first) ≡ k.first)
-    pub edge2 : get_or b (p + 6 + length k.first) 0 ≡ k.edge2
-    pub second : (be16 b (p + 7 + length k.first) ≡ length k.second) × (part b (p + 9 + length k.first) (length k.second) ≡ k.second)
-    pub rest : drop (p + 9 + length k.first + length k.second) b ≡ t
-    pub inside : p + 9 + length k.first + length k.second ≤ length b
-
-  pub key-bytes : (p : ℕ) (k : Key) (t : List ℕ) → length k.first < 65536 → length k.second < 65536 → drop p b ≡ enc_key k t → KeyBytes p k t
-  unfolding enc_key
-  key-bytes p k t h1 h2 e =
-      let u0 = un_byte p 65 _ e in
-      let u1 = un_byte (p + 1) 82 _ u0.1 in
-      let s1 : p + 1 + 1 ≡ p + 2 = omega arith in
-      let u2 = un_byte (p + 2) k.kind _ (rw s1 at u1.1) in
-      let s2 : p + 2 + 1 ≡ p + 3 = omega arith in
-      let u3 = un_byte (p + 3) k.edge _ (rw s2 at u2.1) in
-      let s3 : p + 3 + 1 ≡ p + 4 = omega arith in
-      let u4 = un_text (p + 4) k.first _ h1 (rw s3 at u3.1) in
-      let s4 : p + 4 + 2 + length k.first ≡ p + 6 + length k.first = omega arith in
-      let r4 : p + 4 + 2 ≡ p + 6 = omega arith in
-      let u5 = un_byte (p + 6 + length k.first) k.edge2 _ (rw s4 at u4.2) in
-      let s5 : p + 6 + length k.first + 1 ≡ p + 7 + length k.first = omega arith in
-      let u6 = un_text (p + 7 + length k.first) k.second _ h2 (rw s5 at u5.1) in
-      let s6 : p + 7 + length k.first + 2 ≡ p + 9 + length k.first = omega arith in
-      let s7 : p + 7 + length k.first + 2 + length k.second ≡ p + 9 + length k.first + length k.second = omega arith in
-      record {
-        mark = (u0.0, u1.0);
-        kind = u2.0;
-        edge = u3.0;
-        first = (u4.0, rw r4 at u4.1);
-        edge2 = u5.0;
-        second = (u6.0, rw s6 at u6.1);
-        rest = rw s7 at u6.2;
-        inside = omega arith;
-      }
-
-  -- so the key is read there, and its values stand behind it
-  pub key_read : (p : ℕ) (k : Key) (t : List ℕ) → KeyBytes p k t
-      → (key_at b p ≡ k) × (values_at b p ≡ p + 9 + length k.first + length k.second) × (second_len b p ≡ length k.second)
-  unfolding first_len second_len key_at
-  key_read p k t u =
-      let f1 = u.first.0 in
-      let f2 : be16 b (p + 7 + be16 b (p + 4)) ≡ length k.second = rw f1 u.second.0 in (
-        key_eq k _ _ _ _ _ u.kind (rw f1 u.first.1) u.edge (rw (f2, f1) u.second.1) (rw f1 u.edge2),
-        rw (f2, f1) refl,
-        f2,
-      )
+  second_most-le : (k : ℕ) → second_most k ≤ 2049
+  unfolding second_most
+  second_most-le k = by (one_end k)
+    where
+      by : (t : Bool) → pick t 0 2049 ≤ 2049
+      by true = omega arith
+      by false = omega arith
 
   pub record Read (p : ℕ) (a : Arc) (t : List ℕ) : Type 0 where
     pub key : key_at b p ≡ a.key
@@ -153,39 +101,63 @@ module _ (b : List ℕ) where
     pub good : ArGood b p (ar_next b p)
     pub rest : drop (ar_next b p) b ≡ t
 
-  pub un_arc : (p : ℕ) (a : Arc) (t : List ℕ) → ArcOk a → drop p b ≡ enc_arc a t → Read p a t
-  unfolding first_len
-  un_arc p a t o e =
-      let k = a.key in
-      let h1 = o.first in
-      let h2 = o.second in
-      let h3 = second_short k.kind in
-      let u = key-bytes p k (enc_values a.values t) (omega arith) (omega arith) e in
-      let q = key_read p k (enc_values a.values t) u in
-      let f1 = u.first.0 in
-      let f2 = q.2 in
-      let v0 = q.1 in
+  finish : (p : ℕ) (a : Arc) (t : List ℕ) → ArcOk a → get_or b p 0 ≡ 65 → get_or b (p + 1) 0 ≡ 82 → get_or b (p + 2) 0 ≡ a.key.kind
+      → get_or b (p + 3) 0 ≡ a.key.edge
+      → be16 b (p + 4) ≡ length a.key.first → part b (p + 6) (length a.key.first) ≡ a.key.first
+      → get_or b (p + 6 + length a.key.first) 0 ≡ a.key.edge2
+      → be16 b (p + 7 + length a.key.first) ≡ length a.key.second
+      → part b (p + 9 + length a.key.first) (length a.key.second) ≡ a.key.second
+      → drop (p + 9 + length a.key.first + length a.key.second) b ≡ enc_values a.values t
+      → p + 9 + length a.key.first + length a.key.second ≤ length b → Read p a t
+  unfolding first_len second_len key_at
+  finish p a t o m0 m1 mk me f1 x1 me2 g2 x2 d h =
+      let f2 : be16 b (p + 7 + be16 b (p + 4)) ≡ length a.key.second = rw f1 g2 in
+      let v0 : values_at b p ≡ p + 9 + length a.key.first + length a.key.second = rw (f2, f1) refl in
       let l = o.values.0 in
-      let w = un_values k.kind 0 (p + 9 + length k.first + length k.second) a.values t o.values.2 o.values.1 u.rest in
-      let r : p + 9 + length k.first + length k.second + 8 * length a.values ≡ ar_next b p = omega arith in
-      let y = values_next b k.kind (length a.values) 0 (p + 9 + length k.first + length k.second) _ u.inside w.1 in
+      let w = un_values a.key.kind 0 (p + 9 + length a.key.first + length a.key.second) a.values t o.values.2 o.values.1 d in
+      let r : p + 9 + length a.key.first + length a.key.second + 8 * length a.values ≡ ar_next b p = omega arith in
+      let y = values_next b a.key.kind (length a.values) 0 (p + 9 + length a.key.first + length a.key.second) _ h w.1 in
       let z : ar_next b p ≤ length b = omega (arith, y.1, r) in
       record {
-        key = q.0;
+        key = key_eq a.key _ _ _ _ _ mk (rw f1 x1) me (rw (f2, f1) x2) (rw f1 me2);
         values = rw v0 (rw l at w.0);
         good = record {
-          mark = u.mark;
-          kind = rw u.kind o.kind;
-          edge = rw (u.kind, u.edge) o.edge;
-          first = (rw f1 h1.0, rw f1 h1.1, rw (f1, u.first.1) h1.2);
-          edge2 = rw (u.kind, f1, u.edge2) o.edge2;
-          second = (rw (f2, u.kind) h2.0, rw (f2, u.kind) h2.1, rw (f2, f1, u.second.1) h2.2);
-          values = rw (u.kind, v0) (rw l at w.1);
+          mark = (m0, m1);
+          kind = rw mk o.kind;
+          edge = rw (mk, me) o.edge;
+          first = (rw f1 o.first.0, rw f1 o.first.1, rw (f1, x1) o.first.2);
+          edge2 = rw (mk, f1, me2) o.edge2;
+          second = (rw (f2, mk) o.second.0, rw (f2, mk) o.second.1, rw (f2, f1, x2) o.second.2);
+          values = rw (mk, v0) (rw l at w.1);
           place = refl;
           inside = z;
         };
         rest = rw r at w.2;
       }
+
+  pub un_arc : (p : ℕ) (a : Arc) (t : List ℕ) → ArcOk a → drop p b ≡ enc_arc a t → Read p a t
+  unfolding enc_key key_at first_len second_len
+  un_arc p a t o e =
+      let k = a.key in
+      let h1 = o.first in
+      let h2 = o.second in
+      let h3 = second_most-le k.kind in
+      let u0 = un_byte p 65 _ e in
+      let u1 = un_byte (p + 1) 82 _ u0.1 in
+      let s1 : p + 1 + 1 ≡ p + 2 = omega arith in
+      let u2 = un_byte (p + 2) k.kind _ (rw s1 at u1.1) in
+      let s2 : p + 2 + 1 ≡ p + 3 = omega arith in
+      let u3 = un_byte (p + 3) k.edge _ (rw s2 at u2.1) in
+      let s3 : p + 3 + 1 ≡ p + 4 = omega arith in
+      let u4 = un_text (p + 4) k.first _ (omega arith) (rw s3 at u3.1) in
+      let s4 : p + 4 + 2 + length k.first ≡ p + 6 + length k.first = omega arith in
+      let r4 : p + 4 + 2 ≡ p + 6 = omega arith in
+      let u5 = un_byte (p + 6 + length k.first) k.edge2 _ (rw s4 at u4.2) in
+      let s5 : p + 6 + length k.first + 1 ≡ p + 7 + length k.first = omega arith in
+      let u6 = un_text (p + 7 + length k.first) k.second _ (omega arith) (rw s5 at u5.1) in
+      let s6 : p + 7 + length k.first + 2 ≡ p + 9 + length k.first = omega arith in
+      let s7 : p + 7 + length k.first + 2 + length k.second ≡ p + 9 + length k.first + length k.second = omega arith in
+      finish p a t o u0.0 u1.0 u2.0 u3.0 u4.0 (rw r4 at u4.1) u5.0 u6.0 (rw s6 at u6.1) (rw s7 at u6.2) (omega arith)
 
   abbrev Known : From → ℕ → Type 0
   Known none prev = prev ≡ 0

@@ -1,1 +1,2 @@
 // Laws of the sheet's form, in specs/: no code.
+#![tactic(auto)]

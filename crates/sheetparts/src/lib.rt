@@ -1,4 +1,6 @@
 // The form of a timing sheet (document 01, 'The timing sheet'), and the check of its smallest parts: marks, lengths, names, values.
+#![tactic(auto)]
+
 ghost use Rattle.std.specs.Prelude.{◌≡◌, ◌+◌, ◌≤◌, length, get_or};
 ghost use Rattle.wire.specs.Wire.{part};
 ghost use Rattle.names.specs.Order.{cmp};

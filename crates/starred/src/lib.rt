@@ -1,4 +1,6 @@
 // An entry of a `*` cell: applied in every instance of the cell's type, by the index of the instances by type.
+#![tactic(auto)]
+
 ghost use Rattle.std.specs.Prelude.{◌≡◌, ◌≤◌};
 ghost use Rattle.bytype.specs.ByType.{Indexed, IndexReady};
 ghost use Rattle.byend.specs.Ends.{EndsReady};

@@ -1,6 +1,8 @@
 // Swapping one cell of a file that was read for the incoming one (document 01, 'Patching').
 //
 // First decide, then write: the least fault of the touched slots and of the incoming cell's own is the answer; without one the touched values are written.
+#![tactic(auto)]
+
 ghost use Rattle.std.specs.Prelude.{◌≡◌, length};
 ghost use Rattle.sheetparts.specs.Form.{check_of};
 ghost use Rattle.sheetparts.specs.declared.SheetCheck.TheVariants.{Good};

@@ -1,4 +1,6 @@
 // Swapping one cell of a file that was read (document 01, 'Patching'): what is swapped, the lesser of two faults, and how an arc's values are written.
+#![tactic(auto)]
+
 ghost use Rattle.std.specs.Prelude.{◌≡◌, ◌+◌, ◌≤◌, length};
 ghost use Rattle.patching.specs.Scratch.{back_written};
 ghost use Rattle.swaparcs.specs.Loops.{better_of, is_fault};

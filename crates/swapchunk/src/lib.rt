@@ -1,4 +1,6 @@
 // A part of the arcs that a swap may touch, up to 4,096, each with its seat in tables: their values go through the new file together.
+#![tactic(auto)]
+
 ghost use Rattle.std.specs.Prelude.{◌≡◌, ◌≤◌, length};
 ghost use Rattle.sheet.specs.Find.{InstanceSearch, ArcSearch};
 ghost use Rattle.findseat.specs.Findseat.{InOrder};

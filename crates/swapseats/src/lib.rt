@@ -1,5 +1,7 @@
 // Swapping one cell of a file that was read: the arcs that it may touch, part by part (document 01, 'Patching'). First decide, then write: all
 // are judged before the first value is written.
+#![tactic(auto)]
+
 ghost use Rattle.std.specs.Prelude.{◌≡◌, length};
 ghost use Rattle.seating.specs.Seating.{SwapFits, MarksCover, SwapSeated};
 

@@ -1,4 +1,6 @@
 // The records of a reading, in tables of words that the caller lends.
+#![tactic(auto)]
+
 ghost use Rattle.std.specs.Prelude.{◌≡◌, ◌+◌, ◌*◌, ◌≤◌, length, take};
 ghost use Rattle.tables.specs.Layout.{amount_word, value_words, values_row, head_row, cell_row, entry_row};
 ghost use Rattle.tables.specs.Pastes.{put};

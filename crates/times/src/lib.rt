@@ -1,4 +1,6 @@
 // A number's exact value in femtoseconds (document 01, 'Numbers and times').
+#![tactic(auto)]
+
 ghost use Rattle.std.specs.Prelude.{◌≡◌, ◌+◌, ◌-◌, ◌*◌, ◌^◌, ◌≤◌, ◌<◌, min, eqb, length, get_or, drop};
 ghost use Rattle.numbershape.specs.Shape.{digits_of};
 ghost use Rattle.numbershape.specs.Value.{horner, at_most, exact, number_of};

@@ -1,4 +1,6 @@
 // The forms of tokens (document 01, 'Bytes and words'): quoted texts, comments, and which token stands at a place.
+#![tactic(auto)]
+
 ghost use Rattle.std.specs.Prelude.{◌≡◌, false, ◌+◌, ◌≤◌, ◌<◌, length, drop};
 ghost use Rattle.scanning.specs.Scan.{scan_st};
 ghost use Rattle.scanning.specs.Machines.{word_end, text_halts, text_goes, block_halts};

@@ -1,4 +1,6 @@
 // The tokens of a text, one after the other (document 01, 'Bytes and words').
+#![tactic(auto)]
+
 ghost use Rattle.std.specs.Prelude.{◌≡◌, ◌+◌, ◌≤◌, ◌<◌, length};
 ghost use Rattle.tokenforms.specs.Tokens.{token_at};
 ghost use Rattle.tokens.specs.Stream.{stream, count, end_of};

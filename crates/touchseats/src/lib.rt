@@ -1,4 +1,6 @@
 // Which slots of the seated arcs the entries of a cell supply. Where there are many seats, an entry that names one arc finds its seat by search.
+#![tactic(auto)]
+
 ghost use Rattle.std.specs.Prelude.{◌≡◌, ◌+◌, ◌*◌, ◌≤◌, length};
 ghost use Rattle.classes.specs.Choice.{pick};
 ghost use Rattle.sheetlaws.specs.Sheet.{in_end};

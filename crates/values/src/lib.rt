@@ -1,5 +1,7 @@
 // The readers of values: numbers, triples, lists of them, empty brackets. Each contract is an equation between readings
 // (rules/specs/Promises.antt). Every reader takes the text and the place from which to read.
+#![tactic(auto)]
+
 ghost use Rattle.std.specs.Prelude.{◌≡◌, true, false, ◌+◌, ◌-◌, ◌≤◌, ◌<◌, length, take};
 ghost use Rattle.tokens.specs.Stream.{placed};
 ghost use Rattle.grammar.specs.Ll.{non};

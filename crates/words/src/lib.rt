@@ -2,6 +2,8 @@
 //
 // Words are told apart as numbers: eight bytes are the eight digits of a number to the base 256, so that a whole word is
 // compared at once, and its code in hexadecimal can be read: 0x504F5254 is 50 4F 52 54, PORT.
+#![tactic(auto)]
+
 ghost use Rattle.std.specs.Prelude.{◌≤◌, ◌≡◌, eqb, length, take, drop};
 ghost use Rattle.classes.specs.Choice.{pick};
 ghost use Rattle.words.specs.Words.{key_of, edge_of, unit_of, multiple_of, scale_of, divider_of, keywords, edges, units, multiples, dividers};

@@ -5,7 +5,7 @@ use Rattle.amounts.proofs.changed_to.Goals as goal
 pub returns-then-add : goal.returns-then-add
 unfolding changed
 returns-then-add c =
-    rw c.if-add.true c.wrapping_add_u64.ensures
+    rw c.if-add.true c.wrapping_add_u64.ensures.value
 
 pub returns : goal.returns
 unfolding changed

@@ -24,10 +24,10 @@ pub returns-then-is_near : goal.returns-then-is_near
 unfolding refusal
 returns-then-is_near c =
     let t : c.args.add ≡ true = c.if-not-add.false in
-    rw (ne_eqb _ _ c.if-given-eq-EMPTY.false, t, ne_eqb _ _ c.if-old-eq-EMPTY.false, ← c.wrapping_add_u64.ensures, ← c.is_near.ensures, c.if-is_near.true)
+    rw (ne_eqb _ _ c.if-given-eq-EMPTY.false, t, ne_eqb _ _ c.if-old-eq-EMPTY.false, ← c.wrapping_add_u64.ensures.value, ← c.is_near.ensures, c.if-is_near.true)
 
 pub returns : goal.returns
 unfolding refusal
 returns c =
     let t : c.args.add ≡ true = c.if-not-add.false in
-    rw (ne_eqb _ _ c.if-given-eq-EMPTY.false, t, ne_eqb _ _ c.if-old-eq-EMPTY.false, ← c.wrapping_add_u64.ensures, ← c.is_near.ensures, c.if-is_near.false)
+    rw (ne_eqb _ _ c.if-given-eq-EMPTY.false, t, ne_eqb _ _ c.if-old-eq-EMPTY.false, ← c.wrapping_add_u64.ensures.value, ← c.is_near.ensures, c.if-is_near.false)

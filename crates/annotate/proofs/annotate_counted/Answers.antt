@@ -19,7 +19,7 @@ returns-then-out-start c =
 pub apply_text-went-requires : goal.apply_text-went-requires
 apply_text-went-requires c =
     let t = read_tables c.args.start.now c.args.text.now (length c.args.cells.now / 7) (length c.args.entries.now / 28)
-    c.args.cells.now c.read_file-read.new.1.0 c.args.entries.now c.read_file-read.new.1.1.0 c.args.out.now c.in-Good.instances
+    c.args.cells.now c.read_file-read.new.cells c.args.entries.now c.read_file-read.new.entries c.args.out.now c.in-Good.instances
     c.in-Good.arcs c.in-Good.first_arc (sym c.check_sheet-check.ensures ∙ c.in-Good.is) c.if-out-start.false c.read_file-read.result
     c.read_file-read.ensures c.in-Read.count c.in-Read.all c.in-Read.is in
     (sym c.check_sheet-check.ensures ∙ c.in-Good.is, t.5.cells_fit, t.5.entries_fit_of, c.if-out-start.false)
@@ -39,11 +39,11 @@ pub returns-in-Refused : goal.returns-in-Refused
 returns-in-Refused c =
     (
       unread_text c.args.start.now c.args.text.now (length c.args.cells.now / 7) (length c.args.entries.now / 28) c.args.cells.now
-          c.read_file-read.new.1.0 c.args.entries.now c.read_file-read.new.1.1.0 c.args.out.now c.in-Good.instances c.in-Good.arcs
+          c.read_file-read.new.cells c.args.entries.now c.read_file-read.new.entries c.args.out.now c.in-Good.instances c.in-Good.arcs
           c.in-Good.first_arc (sym c.check_sheet-check.ensures ∙ c.in-Good.is) c.if-out-start.false c.read_file-read.result c.read_file-read.ensures
           c.in-Refused.number c.in-Refused.place c.in-Refused.is,
       unread_none c.args.start.now c.args.text.now (length c.args.cells.now / 7) (length c.args.entries.now / 28) c.args.cells.now
-          c.read_file-read.new.1.0 c.args.entries.now c.read_file-read.new.1.1.0 c.args.out.now c.in-Good.instances c.in-Good.arcs
+          c.read_file-read.new.cells c.args.entries.now c.read_file-read.new.entries c.args.out.now c.in-Good.instances c.in-Good.arcs
           c.in-Good.first_arc (sym c.check_sheet-check.ensures ∙ c.in-Good.is) c.if-out-start.false c.read_file-read.result c.read_file-read.ensures
           c.in-Refused.number c.in-Refused.place c.in-Refused.is,
     )
@@ -52,12 +52,12 @@ pub returns-in-Read : goal.returns-in-Read
 returns-in-Read c =
     (
       read_text c.args.start.now c.args.text.now (length c.args.cells.now / 7) (length c.args.entries.now / 28) c.args.cells.now
-          c.read_file-read.new.1.0 c.args.entries.now c.read_file-read.new.1.1.0 c.args.out.now c.in-Good.instances c.in-Good.arcs
+          c.read_file-read.new.cells c.args.entries.now c.read_file-read.new.entries c.args.out.now c.in-Good.instances c.in-Good.arcs
           c.in-Good.first_arc (sym c.check_sheet-check.ensures ∙ c.in-Good.is) c.if-out-start.false c.read_file-read.result c.read_file-read.ensures
           (λ i. (c.shared_slice_known-1.given i).fits) c.in-Read.count c.in-Read.all c.in-Read.is c.apply_text-went.result
-          c.apply_text-went.new.1.1.1.1.1.1.1.0 c.apply_text-went.ensures,
+          c.apply_text-went.new.out c.apply_text-went.ensures,
       read_count c.args.start.now c.args.text.now (length c.args.cells.now / 7) (length c.args.entries.now / 28) c.args.cells.now
-          c.read_file-read.new.1.0 c.args.entries.now c.read_file-read.new.1.1.0 c.args.out.now c.in-Good.instances c.in-Good.arcs
+          c.read_file-read.new.cells c.args.entries.now c.read_file-read.new.entries c.args.out.now c.in-Good.instances c.in-Good.arcs
           c.in-Good.first_arc (sym c.check_sheet-check.ensures ∙ c.in-Good.is) c.if-out-start.false c.read_file-read.result c.read_file-read.ensures
           c.in-Read.count c.in-Read.all c.in-Read.is,
     )

@@ -1,9 +1,9 @@
 -- `annotate::any_device` meets its contract. Invariant: whether one of the first k rows is of a DEVICE.
 use mathlib.Core.Path.{◌≡◌, refl}
-use mathlib.Core.Logic.{⊎_elim}
 use native.Mathlib.Omega.{arith}
 use Rattle.annotate.specs.Devices.{any_device, rows_in, row_with, row_without}
 use Rattle.annotate.proofs.any_device.Goals as goal
+use Rattle.annotate.proofs.any_device.Goals.{then-entries-k-eq-DEVICE, else-entries-k-eq-DEVICE}
 
 pub loop-k-init : goal.loop-k-init
 unfolding any_device
@@ -36,7 +36,7 @@ pub loop-k-preserved : goal.loop-k-preserved
 loop-k-preserved c =
     (
       omega (arith, c.loop-k-test.true),
-      ⊎_elim (λ w. row_with c.args.entries.now c.loop-k.k _ c.loop-k.some c.loop-k.invariant.1 w.0.taken w.1) (λ w. row_without c.args.entries.now c.loop-k.k _ c.loop-k.some c.loop-k.invariant.1 w.0.left w.1) c.if-entries-k-eq-DEVICE.branch,
+      elim c.if-entries-k-eq-DEVICE.branch [ then-entries-k-eq-DEVICE w ↦ row_with c.args.entries.now c.loop-k.k _ c.loop-k.some c.loop-k.invariant.1 w.if-entries-k-eq-DEVICE.true w.some-is | else-entries-k-eq-DEVICE w ↦ row_without c.args.entries.now c.loop-k.k _ c.loop-k.some c.loop-k.invariant.1 w.if-entries-k-eq-DEVICE.false w.some-is ],
     )
 
 pub returns : goal.returns

@@ -50,11 +50,11 @@ copy_sheet-requires-then-is_refusal c =
 pub returns-then-is_refusal : goal.returns-then-is_refusal
 returns-then-is_refusal c =
     λ y. rw c.copy_sheet-then-is_refusal.ensures (text-stop c.args.start.now y c.args.plan.instances c.args.plan.arcs c.args.plan.first c.requires.0
-    c.args.text.now c.args.plan.slash c.args.cells.now c.args.count c.args.entries.now c.apply_cells-went.new.1.1.1.1.1.1.1.1.1.1.0
+    c.args.text.now c.args.plan.slash c.args.cells.now c.args.count c.args.entries.now c.apply_cells-went.new.out
     c.apply_cells-went.result (sym c.is_refusal.ensures ∙ c.if-is_refusal.true) (rw c.copy_sheet.ensures at c.apply_cells-went.ensures.1) y)
 
 pub returns-else-is_refusal : goal.returns-else-is_refusal
 returns-else-is_refusal c =
     λ y. text-done c.args.start.now y c.args.plan.instances c.args.plan.arcs c.args.plan.first c.requires.0 c.args.text.now
-    c.args.plan.slash c.args.cells.now c.args.count c.args.entries.now c.apply_cells-went.new.1.1.1.1.1.1.1.1.1.1.0 c.apply_cells-went.result
+    c.args.plan.slash c.args.cells.now c.args.count c.args.entries.now c.apply_cells-went.new.out c.apply_cells-went.result
     (sym c.is_refusal.ensures ∙ c.if-is_refusal.false) (rw c.copy_sheet.ensures at c.apply_cells-went.ensures.1) y

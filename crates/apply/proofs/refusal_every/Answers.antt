@@ -1,11 +1,11 @@
 -- `apply::refusal_every` meets its contract. Invariant: the least refusal in the instances so far that are of the type.
 use mathlib.Core.Path.{◌≡◌, refl, ◌∙◌}
-use mathlib.Core.Logic.{⊎_elim}
 use native.Mathlib.Omega.{arith}
 use Rattle.sheetlaws.specs.Sheet.{nth}
 use Rattle.applying.specs.Bytes.{least_of, refusal_every}
 use Rattle.entryarcs.specs.Turns.{least_with, least_without, instance-whole, instance-more, typed, type-is, refuses_in}
 use Rattle.apply.proofs.refusal_every.Goals as goal
+use Rattle.apply.proofs.refusal_every.Goals.{then-is_of, else-is_of}
 
 pub loop-k-init : goal.loop-k-init
 unfolding nth least_of
@@ -32,15 +32,12 @@ loop-k-preserved c =
     c.args.entry c.args.rows c.args.out.now in
     let is = type-is c.args.start.now c.args.celltype.now c.loop-k.k c.loop-k.here _ c.loop-k.invariant.1 c.is_of.ensures in
     let next = instance-more c.args.start.now c.loop-k.k 12 c.loop-k.here _ c.loop-k.invariant.1 c.next_instance-here.ensures in
-    ⊎_elim
-    (λ w. (
+    elim c.if-is_of.branch [ then-is_of w ↦ (
       omega arith,
       next,
-      least_with test c.loop-k.k refusal _ c.loop-k.least (is ∙ w.0.taken) c.loop-k.invariant.2
-          (w.3 ∙ w.2.ensures ∙ rw (w.1.ensures, c.loop-k.invariant.1)),
-    ))
-    (λ w. (omega arith, next, least_without test c.loop-k.k refusal _ (is ∙ w.0.left) (w.1 ∙ c.loop-k.invariant.2)))
-    c.if-is_of.branch
+      least_with test c.loop-k.k refusal _ c.loop-k.least (is ∙ w.if-is_of.true) c.loop-k.invariant.2
+          (w.least-is ∙ w.lesser_of-least.ensures ∙ rw (w.refusal_in.ensures, c.loop-k.invariant.1)),
+    ) | else-is_of w ↦ (omega arith, next, least_without test c.loop-k.k refusal _ (is ∙ w.if-is_of.false) (w.least-is ∙ c.loop-k.invariant.2)) ]
 
 pub returns : goal.returns
 unfolding refusal_every

@@ -32,7 +32,7 @@ returns-in-One c =
       c.apply_entries.ensures.0,
       λ y g. cell_entries c.args.start.now y c.args.plan.instances c.args.plan.arcs c.args.plan.first g
           c.args.text.now c.args.plan.slash c.args.cells.now c.args.row c.args.entries.now c.args.first c.args.out.now
-          c.apply_entries.new.1.1.1.1.1.1.1.1.1.1.1.0 (One c.in-One.instance) c.apply_entries.result (rw c.cell_at-cell.ensures at e)
+          c.apply_entries.new.out (One c.in-One.instance) c.apply_entries.result (rw c.cell_at-cell.ensures at e)
           (λ x z. one_somebody _ x z) (rw (c.part_of-celltype.ensures, c.cell_at-cell.ensures) at c.apply_entries.ensures.1) y g,
     )
 
@@ -42,6 +42,6 @@ returns-in-Every c =
       c.apply_entries-in-Every.ensures.0,
       λ y g. cell_entries c.args.start.now y c.args.plan.instances c.args.plan.arcs c.args.plan.first g
           c.args.text.now c.args.plan.slash c.args.cells.now c.args.row c.args.entries.now c.args.first c.args.out.now
-          c.apply_entries-in-Every.new.1.1.1.1.1.1.1.1.1.1.1.0 Every c.apply_entries-in-Every.result (rw c.cell_at-cell.ensures at e) (λ x z. every_somebody x z)
+          c.apply_entries-in-Every.new.out Every c.apply_entries-in-Every.result (rw c.cell_at-cell.ensures at e) (λ x z. every_somebody x z)
           (rw (c.part_of-celltype.ensures, c.cell_at-cell.ensures) at c.apply_entries-in-Every.ensures.1) y g,
     )

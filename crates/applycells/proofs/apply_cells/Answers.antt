@@ -45,26 +45,13 @@ returns-in-Refused c =
       c.out-1.given ∙ c.loop-k.invariant.3,
       λ y g. cells-stop c.args.start.now y c.args.plan.instances c.args.plan.arcs c.args.plan.first g
           c.args.text.now c.args.plan.slash c.args.cells.now c.args.count c.args.entries.now c.args.out.now c.loop-k.k c.loop-k.out
-          c.apply_cell-went.new.1.1.1.1.1.1.1.1.1.1.1.0 c.loop-k.first c.in-Refused.number c.in-Refused.place (omega arith) c.loop-k.invariant.1
+          c.apply_cell-went.new.out c.loop-k.first c.in-Refused.number c.in-Refused.place (omega arith) c.loop-k.invariant.1
           (c.loop-k.invariant.2 y g) (rw c.in-Refused.is at c.apply_cell-went.ensures.1) y g,
     )
-
-pub overflow_add-first : goal.overflow_add-first
-overflow_add-first c =
-    omega (arith, c.requires.2, c.type_inv.1.1.1.1.1.1.1.0)
-
-pub offset_bounds-cells-row : goal.offset_bounds-cells-row
-offset_bounds-cells-row c =
-    omega (arith, c.requires.2, c.type_inv.1.1.1.1.1.1.1.0)
 
 pub bounds-cells-row : goal.bounds-cells-row
 bounds-cells-row c =
     omega (arith, c.requires.2)
-
-pub overflow_add-first-in-loop-k : goal.overflow_add-first-in-loop-k
-overflow_add-first-in-loop-k c =
-    let w = entries_within c.args.cells.now c.loop-k.k c.args.count (omega arith) in
-    omega (arith, w, c.loop-k.invariant.1, c.requires.3, c.type_inv.1.1.1.1.1.1.1.1.1.0)
 
 pub overflow_add-k : goal.overflow_add-k
 overflow_add-k c = omega arith
@@ -80,7 +67,7 @@ loop-k-preserved c =
       rw add-one (ap (λ (x : ℕ). x + get_or c.args.cells.now (7 * c.loop-k.k + 6) 0) c.loop-k.invariant.1),
       (λ y g. rw add-one (cells-more c.args.start.now y c.args.plan.instances c.args.plan.arcs c.args.plan.first g c.args.text.now
           c.args.plan.slash c.args.cells.now c.args.count c.args.entries.now c.args.out.now c.loop-k.k c.loop-k.out
-          c.apply_cell-went.new.1.1.1.1.1.1.1.1.1.1.1.0 c.loop-k.first (omega arith) c.loop-k.invariant.1 (c.loop-k.invariant.2 y g)
+          c.apply_cell-went.new.out c.loop-k.first (omega arith) c.loop-k.invariant.1 (c.loop-k.invariant.2 y g)
           (rw c.in-Done.is at c.apply_cell-went.ensures.1))),
       c.out-1.given ∙ c.loop-k.invariant.3,
     )

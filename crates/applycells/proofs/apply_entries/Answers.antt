@@ -48,7 +48,7 @@ returns-then-number-ne0 c =
       c.out-1.given ∙ c.loop-k.invariant.2,
       λ y g. entries_stop c.args.start.now y c.args.plan.instances c.args.plan.arcs c.args.plan.first g
           c.args.text.now c.args.plan.slash c.args.entries.now c.args.first c.args.count c.args.whom c.args.celltype.now c.args.out.now
-          c.loop-k.k c.loop-k.out c.apply_entry-number.new.1.1.1.1.1.1.1.1.1.1.0 c.apply_entry-number.result (omega arith) (c.loop-k.invariant.1 y g)
+          c.loop-k.k c.loop-k.out c.apply_entry-number.new.out c.apply_entry-number.result (omega arith) (c.loop-k.invariant.1 y g)
           c.apply_entry-number.ensures.0 c.if-number-ne0.true y g,
     )
 
@@ -64,7 +64,7 @@ loop-k-preserved c =
       omega arith,
       (λ y g. rw add-one (entries_more c.args.start.now y c.args.plan.instances c.args.plan.arcs c.args.plan.first g
           c.args.text.now c.args.plan.slash c.args.entries.now c.args.first c.args.count c.args.whom c.args.celltype.now c.args.out.now
-          c.loop-k.k c.loop-k.out c.apply_entry-number.new.1.1.1.1.1.1.1.1.1.1.0 (omega arith) (c.loop-k.invariant.1 y g)
+          c.loop-k.k c.loop-k.out c.apply_entry-number.new.out (omega arith) (c.loop-k.invariant.1 y g)
           (sym c.apply_entry-number.ensures.0 ∙ c.if-number-ne0.false) c.apply_entry-number.ensures.1)),
       c.out-1.given ∙ c.loop-k.invariant.2,
     )

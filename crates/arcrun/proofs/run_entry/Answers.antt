@@ -12,18 +12,6 @@ returns-then-not-is_meant c =
     let m = sym c.is_meant.ensures ∙ c.if-not-is_meant.true in
     rw (← c.head_at-entry.ensures, m) (refl, refl)
 
-pub overflow_add-row : goal.overflow_add-row
-overflow_add-row c =
-    omega (arith, c.requires.3, c.type_inv.1.1.1.1.1.1.0)
-
-pub overflow_add-row-2 : goal.overflow_add-row-2
-overflow_add-row-2 c =
-    omega (arith, c.requires.3, c.type_inv.1.1.1.1.1.1.0)
-
-pub offset_bounds-entries-row : goal.offset_bounds-entries-row
-offset_bounds-entries-row c =
-    omega (arith, c.requires.3, c.type_inv.1.1.1.1.1.1.0)
-
 pub arc_refusal-number-requires : goal.arc_refusal-number-requires
 arc_refusal-number-requires c =
     omega (arith, c.requires.5)

@@ -19,10 +19,6 @@ pub body_turn-t-requires : goal.body_turn-t-requires
 body_turn-t-requires c =
     c.loop-number.invariant.3
 
-pub enum_known-t : goal.enum_known-t
-enum_known-t c =
-    c.in-Refused.in-Refused-own.keys1
-
 pub shape_of-entries-in-Refused : goal.shape_of-entries-in-Refused
 shape_of-entries-in-Refused c =
     c.loop-number.invariant.7
@@ -32,10 +28,6 @@ returns-in-Refused c =
     let u : Turned c.args.text.now c.loop-number.p c.loop-number.within c.loop-number.some c.args.slash (turn.Refused c.in-Refused.number c.in-Refused.place) = rw c.in-Refused.is at c.body_turn-t.ensures in
     (along-not c.args.text.now c.args.from c.args.slash c.args.unit c.args.room c.loop-number.p c.loop-number.n c.loop-number.within c.loop-number.some c.loop-number.invariant.0 c.loop-number.invariant.4 c.in-Refused.number c.in-Refused.place u, λ f. c.loop-number.invariant.6 ∙ rw f)
 
-pub enum_known-t-in-Done-1 : goal.enum_known-t-in-Done-1
-enum_known-t-in-Done-1 c =
-    c.in-Done.in-Done-own.keys2
-
 pub shape_of-entries-in-Done : goal.shape_of-entries-in-Done
 shape_of-entries-in-Done c =
     c.loop-number.invariant.7
@@ -44,10 +36,6 @@ pub returns-in-Done : goal.returns-in-Done
 returns-in-Done c =
     let u : Turned c.args.text.now c.loop-number.p c.loop-number.within c.loop-number.some c.args.slash (turn.Done c.in-Done.end) = rw c.in-Done.is at c.body_turn-t.ensures in
     (c.loop-number.invariant.0, c.loop-number.invariant.1, along-done c.args.text.now c.args.from c.args.slash c.args.unit c.args.room c.loop-number.p c.loop-number.n c.loop-number.within c.loop-number.some c.loop-number.invariant.0 c.loop-number.invariant.4 c.in-Done.end u, c.loop-number.invariant.2, omega (arith, u.1.0, c.loop-number.invariant.5), u.1.1, c.loop-number.invariant.6)
-
-pub enum_known-t-in-On-1 : goal.enum_known-t-in-On-1
-enum_known-t-in-On-1 c =
-    c.in-On.in-On-own.keys3
 
 pub loop-number-smaller-in-On : goal.loop-number-smaller-in-On
 loop-number-smaller-in-On c =
@@ -59,10 +47,6 @@ loop-number-preserved-in-On c =
     let u : Turned c.args.text.now c.loop-number.p c.loop-number.within c.loop-number.some c.args.slash (turn.On c.in-On.w c.in-On.f c.in-On.q) = rw c.in-On.is at c.body_turn-t.ensures in
     (c.loop-number.invariant.0, c.loop-number.invariant.1, c.loop-number.invariant.2, u.1.1, along_on c.args.text.now c.args.from c.args.slash c.args.unit c.args.room c.loop-number.p c.loop-number.n c.loop-number.within c.loop-number.some c.loop-number.invariant.0 c.loop-number.invariant.4 c.in-On.w c.in-On.f c.in-On.q u, omega (arith, u.1.0, c.loop-number.invariant.5), c.loop-number.invariant.6, c.loop-number.invariant.7)
 
-pub enum_known-t-in-Entry-1 : goal.enum_known-t-in-Entry-1
-enum_known-t-in-Entry-1 c =
-    c.in-Entry.in-Entry-own.keys4
-
 pub overflow_sub-room : goal.overflow_sub-room
 overflow_sub-room c =
     c.loop-number.invariant.2
@@ -71,10 +55,6 @@ pub read_entry-e-requires : goal.read_entry-e-requires
 read_entry-e-requires c =
     let u : Turned c.args.text.now c.loop-number.p c.loop-number.within c.loop-number.some c.args.slash (turn.Entry c.in-Entry.q) = rw c.in-Entry.is at c.body_turn-t.ensures in
     u.1.1
-
-pub enum_known-status : goal.enum_known-status
-enum_known-status c =
-    c.in-Refused-status.in-Refused-status-own.keys1
 
 pub shape_of-entries-in-Refused-status : goal.shape_of-entries-in-Refused-status
 shape_of-entries-in-Refused-status c =
@@ -85,15 +65,6 @@ returns-in-Refused-status c =
     let u : Turned c.args.text.now c.loop-number.p c.loop-number.within c.loop-number.some c.args.slash (turn.Entry c.in-Entry.q) = rw c.in-Entry.is at c.body_turn-t.ensures in
     let e' : Listable c.args.text.now c.in-Entry.q (item_place c.loop-number.within c.args.slash) c.args.slash c.args.unit (c.args.room - c.loop-number.n) (status.Refused c.in-Refused-status.number c.in-Refused-status.place) c.read_entry-e.result.entry (take c.read_entry-e.result.count c.read_entry-e.result.list) = rw c.in-Refused-status.is at c.read_entry-e.ensures.0 in
     (along_bad c.args.text.now c.args.from c.args.slash c.args.unit c.args.room c.loop-number.p c.loop-number.n c.loop-number.within c.loop-number.some c.loop-number.invariant.0 c.loop-number.invariant.4 c.in-Entry.q u c.in-Refused-status.number c.in-Refused-status.place c.read_entry-e.result.entry (take c.read_entry-e.result.count c.read_entry-e.result.list) e', λ f. c.loop-number.invariant.6 ∙ rw f)
-
-pub enum_known-status-in-Done-status : goal.enum_known-status-in-Done-status
-enum_known-status-in-Done-status c =
-    c.in-Done-status.in-Done-status-own.keys2
-
-pub overflow_add-row : goal.overflow_add-row
-overflow_add-row c =
-    let e' : Listable c.args.text.now c.in-Entry.q (item_place c.loop-number.within c.args.slash) c.args.slash c.args.unit (c.args.room - c.loop-number.n) (status.Done c.in-Done-status.end) c.read_entry-e.result.entry (take c.read_entry-e.result.count c.read_entry-e.result.list) = rw c.in-Done-status.is at c.read_entry-e.ensures.0 in
-    omega (arith, e'.3, c.loop-number.invariant.2, c.requires.1, c.type_inv.1.1.1.1.1.1.1.0)
 
 pub note_entry-requires : goal.note_entry-requires
 note_entry-requires c =
@@ -122,5 +93,5 @@ loop-number-preserved c =
       along-entry c.args.text.now c.args.from c.args.slash c.args.unit c.args.room c.loop-number.p c.loop-number.n c.loop-number.within c.loop-number.some c.loop-number.invariant.0 c.loop-number.invariant.4 c.in-Entry.q u c.in-Done-status.end c.read_entry-e.result.entry (take c.read_entry-e.result.count c.read_entry-e.result.list) e',
       omega (arith, u.1.0, e'.1, c.loop-number.invariant.5),
       c.note_entry.ensures ∙ rw c.loop-number.invariant.6 (filled_on c.args.fill c.args.entries.now c.args.row c.loop-number.n c.loop-number.invariant.0 (item c.read_entry-e.result.entry (take c.read_entry-e.result.count c.read_entry-e.result.list)) c.loop-number.invariant.1 (omega (arith, e'.3, c.loop-number.invariant.2, c.requires.1))),
-      c.note_entry.auto.0 ∙ c.loop-number.invariant.7,
+      c.note_entry.auto.entries ∙ c.loop-number.invariant.7,
     )

@@ -19,7 +19,7 @@ choose-chosen-requires c =
 
 pub run_chunk-fault-requires : goal.run_chunk-fault-requires
 run_chunk-fault-requires c =
-    (c.requires.0, chosen_order c.args.start.now c.args.plan.arcs c.args.plan.first c.args.bits.now c.loop-j.j c.choose-chosen.result.count c.choose-chosen.result.next c.choose-chosen.result.place c.choose-chosen.new.1.1.1.1.1.0 c.choose-chosen.ensures.1, c.choose-chosen.ensures.1.6, c.loop-j.invariant.2, c.loop-j.invariant.3)
+    (c.requires.0, chosen_order c.args.start.now c.args.plan.arcs c.args.plan.first c.args.bits.now c.loop-j.j c.choose-chosen.result.count c.choose-chosen.result.next c.choose-chosen.result.place c.choose-chosen.new.arcs c.choose-chosen.ensures.1, c.choose-chosen.ensures.1.6, c.loop-j.invariant.2, c.loop-j.invariant.3)
 
 pub loop-j-smaller : goal.loop-j-smaller
 loop-j-smaller c =
@@ -28,7 +28,7 @@ loop-j-smaller c =
 
 pub loop-j-preserved : goal.loop-j-preserved
 loop-j-preserved c =
-    (c.choose-chosen.ensures.1.2, c.choose-chosen.ensures.1.4, c.run_chunk-fault.ensures.0, c.run_chunk-fault.ensures.1, rw c.better-best.ensures (part-judged c.args.start.now c.args.plan.instances c.args.plan.arcs c.args.plan.first c.args.file.now c.args.incoming.now c.args.plan.slash c.args.cells.now c.args.entries.now c.args.cells2.now c.args.entries2.now c.args.swap c.args.leaver c.args.leavertype.now c.args.comer c.args.comertype.now c.requires.0.ready c.args.bits.now c.requires.1 c.loop-j.j c.choose-chosen.result.count c.choose-chosen.result.next c.choose-chosen.result.place c.choose-chosen.new.1.1.1.1.1.0 c.run_chunk-fault.new.1.1.1.1.1.1.1.1.1.1.1.1.1.1.1.1.1.0 c.run_chunk-fault.new.1.1.1.1.1.1.1.1.1.1.1.1.1.1.1.1.1.1.0 c.choose-chosen.ensures.1 c.run_chunk-fault.ensures.2 c.run_chunk-fault.result c.run_chunk-fault.ensures.3 c.args.own c.loop-j.best c.loop-j.invariant.4))
+    (c.choose-chosen.ensures.1.2, c.choose-chosen.ensures.1.4, c.run_chunk-fault.ensures.0, c.run_chunk-fault.ensures.1, rw c.better-best.ensures (part-judged c.args.start.now c.args.plan.instances c.args.plan.arcs c.args.plan.first c.args.file.now c.args.incoming.now c.args.plan.slash c.args.cells.now c.args.entries.now c.args.cells2.now c.args.entries2.now c.args.swap c.args.leaver c.args.leavertype.now c.args.comer c.args.comertype.now c.requires.0.ready c.args.bits.now c.requires.1 c.loop-j.j c.choose-chosen.result.count c.choose-chosen.result.next c.choose-chosen.result.place c.choose-chosen.new.arcs c.run_chunk-fault.new.flags c.run_chunk-fault.new.states c.choose-chosen.ensures.1 c.run_chunk-fault.ensures.2 c.run_chunk-fault.result c.run_chunk-fault.ensures.3 c.args.own c.loop-j.best c.loop-j.invariant.4))
 
 pub shape_of-flags : goal.shape_of-flags
 shape_of-flags c =

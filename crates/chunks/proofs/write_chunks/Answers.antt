@@ -20,11 +20,11 @@ choose-chosen-requires c =
 
 pub run_chunk-requires : goal.run_chunk-requires
 run_chunk-requires c =
-    (c.requires.0, chosen_order c.args.start.now c.args.plan.arcs c.args.plan.first c.args.bits.now c.loop-j.j c.choose-chosen.result.count c.choose-chosen.result.next c.choose-chosen.result.place c.choose-chosen.new.1.1.1.1.1.0 c.choose-chosen.ensures.1, c.choose-chosen.ensures.1.6, c.loop-j.invariant.2, c.loop-j.invariant.3)
+    (c.requires.0, chosen_order c.args.start.now c.args.plan.arcs c.args.plan.first c.args.bits.now c.loop-j.j c.choose-chosen.result.count c.choose-chosen.result.next c.choose-chosen.result.place c.choose-chosen.new.arcs c.choose-chosen.ensures.1, c.choose-chosen.ensures.1.6, c.loop-j.invariant.2, c.loop-j.invariant.3)
 
 pub write_seats-requires : goal.write_seats-requires
 write_seats-requires c =
-    (order_there c.args.start.now c.args.plan.arcs c.args.plan.first c.choose-chosen.new.1.1.1.1.1.0 c.choose-chosen.result.count c.requires.0.arcs.good (chosen_order c.args.start.now c.args.plan.arcs c.args.plan.first c.args.bits.now c.loop-j.j c.choose-chosen.result.count c.choose-chosen.result.next c.choose-chosen.result.place c.choose-chosen.new.1.1.1.1.1.0 c.choose-chosen.ensures.1), c.choose-chosen.ensures.1.6, c.run_chunk.ensures.0, c.run_chunk.ensures.1, c.loop-j.invariant.4)
+    (order_there c.args.start.now c.args.plan.arcs c.args.plan.first c.choose-chosen.new.arcs c.choose-chosen.result.count c.requires.0.arcs.good (chosen_order c.args.start.now c.args.plan.arcs c.args.plan.first c.args.bits.now c.loop-j.j c.choose-chosen.result.count c.choose-chosen.result.next c.choose-chosen.result.place c.choose-chosen.new.arcs c.choose-chosen.ensures.1), c.choose-chosen.ensures.1.6, c.run_chunk.ensures.0, c.run_chunk.ensures.1, c.loop-j.invariant.4)
 
 pub loop-j-smaller : goal.loop-j-smaller
 loop-j-smaller c =
@@ -33,7 +33,7 @@ loop-j-smaller c =
 
 pub loop-j-preserved : goal.loop-j-preserved
 loop-j-preserved c =
-    (c.choose-chosen.ensures.1.2, c.choose-chosen.ensures.1.4, c.run_chunk.ensures.0, c.run_chunk.ensures.1, c.current-1.given ∙ c.loop-j.invariant.4, rw c.write_seats.ensures (part-written c.args.start.now c.args.plan.instances c.args.plan.arcs c.args.plan.first c.args.file.now c.args.incoming.now c.args.plan.slash c.args.cells.now c.args.entries.now c.args.cells2.now c.args.entries2.now c.args.swap c.args.leaver c.args.leavertype.now c.args.comer c.args.comertype.now c.requires.0.ready c.args.bits.now c.requires.1 c.loop-j.j c.choose-chosen.result.count c.choose-chosen.result.next c.choose-chosen.result.place c.choose-chosen.new.1.1.1.1.1.0 c.run_chunk.new.1.1.1.1.1.1.1.1.1.1.1.1.1.1.1.1.1.0 c.run_chunk.new.1.1.1.1.1.1.1.1.1.1.1.1.1.1.1.1.1.1.0 c.choose-chosen.ensures.1 c.run_chunk.ensures.2 c.run_chunk.result c.run_chunk.ensures.3 c.args.current.now c.loop-j.current c.loop-j.invariant.5))
+    (c.choose-chosen.ensures.1.2, c.choose-chosen.ensures.1.4, c.run_chunk.ensures.0, c.run_chunk.ensures.1, c.current-1.given ∙ c.loop-j.invariant.4, rw c.write_seats.ensures (part-written c.args.start.now c.args.plan.instances c.args.plan.arcs c.args.plan.first c.args.file.now c.args.incoming.now c.args.plan.slash c.args.cells.now c.args.entries.now c.args.cells2.now c.args.entries2.now c.args.swap c.args.leaver c.args.leavertype.now c.args.comer c.args.comertype.now c.requires.0.ready c.args.bits.now c.requires.1 c.loop-j.j c.choose-chosen.result.count c.choose-chosen.result.next c.choose-chosen.result.place c.choose-chosen.new.arcs c.run_chunk.new.flags c.run_chunk.new.states c.choose-chosen.ensures.1 c.run_chunk.ensures.2 c.run_chunk.result c.run_chunk.ensures.3 c.args.current.now c.loop-j.current c.loop-j.invariant.5))
 
 pub shape_of-flags : goal.shape_of-flags
 shape_of-flags c =

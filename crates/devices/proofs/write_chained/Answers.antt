@@ -9,10 +9,10 @@ use Rattle.sheet.specs.Find.{arc_there}
 use Rattle.sheetparts.specs.Form.{path_at}
 use lib.ListN.{length}
 use native.Mathlib.Omega.{arith}
-use mathlib.Core.Logic.{⊎_elim}
 use mathlib.Core.Path.{◌≡◌, refl, sym, ◌∙◌, ap}
 use Prim.Native.Nat.{◌<◌}
 use Rattle.devices.proofs.write_chained.Goals as goal
+use Rattle.devices.proofs.write_chained.Goals.{then-device_hit, else-device_hit}
 
 pub instance_path-requires : goal.instance_path-requires
 instance_path-requires c = c.requires.0.there
@@ -78,10 +78,7 @@ loop-k-preserved c =
     let hit = hit-is c.args.start.now c.args.text.now c.args.plan.slash c.args.plan.first c.args.entry c.args.instance c.loop-k.k _ _ c.arc_place-here.ensures c.device_hit.ensures in
     let on = (chain_next end_place (end_bucket c.args.start.now c.args.plan.first) c.args.plan.arcs c.args.ends.now c.requires.3 (bucket_of (path_at c.args.start.now c.args.instance)) c.loop-k.k _ low c.loop-k.invariant.0 c.widen-k-in-loop-k.ensures).0 in
     let skip = skip_next end_place (end_bucket c.args.start.now c.args.plan.first) c.args.plan.arcs c.args.ends.now c.requires.3 (bucket_of (path_at c.args.start.now c.args.instance)) test other (written_of test write c.args.out.now) (written_same test write c.args.out.now) c.loop-k.k _ low c.loop-k.invariant.0 c.widen-k-in-loop-k.ensures in
-    ⊎_elim
-    (λ w. (on, written_with test c.loop-k.k write c.args.out.now _ c.loop-k.out (hit ∙ w.0.taken) c.loop-k.invariant.1 (w.7 ∙ w.4.ensures ∙ rw (w.1.ensures, c.arc_place-here.ensures)) ∙ sym skip, ap length w.7 ∙ w.5.given ∙ c.loop-k.invariant.2))
-    (λ w. (on, written_without test c.loop-k.k write c.args.out.now _ (hit ∙ w.0.left) (w.1 ∙ c.loop-k.invariant.1) ∙ sym skip, ap length w.1 ∙ c.loop-k.invariant.2))
-    c.if-device_hit.branch
+    elim c.if-device_hit.branch [ then-device_hit w ↦ (on, written_with test c.loop-k.k write c.args.out.now _ c.loop-k.out (hit ∙ w.if-device_hit.true) c.loop-k.invariant.1 (w.out-is ∙ w.write_arc.ensures ∙ rw (w.values_place-values.ensures, c.arc_place-here.ensures)) ∙ sym skip, c.if-device_hit.auto.out ∙ c.loop-k.invariant.2) | else-device_hit w ↦ (on, written_without test c.loop-k.k write c.args.out.now _ (hit ∙ w.if-device_hit.false) (w.out-is ∙ c.loop-k.invariant.1) ∙ sym skip, c.if-device_hit.auto.out ∙ c.loop-k.invariant.2) ]
 
 pub shape_of-out : goal.shape_of-out
 shape_of-out c = c.loop-k.invariant.2

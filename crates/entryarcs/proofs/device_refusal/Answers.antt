@@ -1,11 +1,11 @@
 -- `entryarcs::device_refusal` meets its contract. Invariant: whether one of the arcs so far is meant, and the least refusal of those that are.
 use mathlib.Core.Path.{◌≡◌, refl, ◌∙◌}
-use mathlib.Core.Logic.{⊎_elim}
 use native.Mathlib.Omega.{arith}
 use Rattle.sheetlaws.specs.Sheet.{nth}
 use Rattle.applying.specs.Bytes.{some_of, least_of, device_refusal}
 use Rattle.entryarcs.specs.Turns.{some_with, some_without, least_with, least_without, arc-whole, arc-more, hits, refuses, hit-is}
 use Rattle.entryarcs.proofs.device_refusal.Goals as goal
+use Rattle.entryarcs.proofs.device_refusal.Goals.{then-device_hit, else-device_hit}
 
 pub loop-k-init : goal.loop-k-init
 unfolding nth some_of least_of
@@ -39,21 +39,18 @@ loop-k-preserved c =
     let hit = hit-is c.args.start.now c.args.text.now c.args.plan.slash c.args.plan.first c.args.entry c.args.instance c.loop-k.k c.loop-k.here _ c.loop-k.invariant.1
     c.device_hit.ensures in
     let next = arc-more c.args.start.now c.loop-k.k c.args.plan.first c.loop-k.here _ c.loop-k.invariant.1 c.next_arc-here.ensures in
-    ⊎_elim
-    (λ w. (
+    elim c.if-device_hit.branch [ then-device_hit w ↦ (
       omega arith,
       next,
-      w.5 ∙ some_with test c.loop-k.k (hit ∙ w.0.taken),
-      least_with test c.loop-k.k refusal _ c.loop-k.least (hit ∙ w.0.taken) c.loop-k.invariant.3
-          (w.6 ∙ w.4.ensures ∙ rw (w.3.ensures, w.1.ensures, c.loop-k.invariant.1)),
-    ))
-    (λ w. (
+      w.some-is ∙ some_with test c.loop-k.k (hit ∙ w.if-device_hit.true),
+      least_with test c.loop-k.k refusal _ c.loop-k.least (hit ∙ w.if-device_hit.true) c.loop-k.invariant.3
+          (w.least-is ∙ w.lesser_of-least.ensures ∙ rw (w.arc_refusal.ensures, w.values_place-values.ensures, c.loop-k.invariant.1)),
+    ) | else-device_hit w ↦ (
       omega arith,
       next,
-      some_without test c.loop-k.k _ (hit ∙ w.0.left) (w.1 ∙ c.loop-k.invariant.2),
-      least_without test c.loop-k.k refusal _ (hit ∙ w.0.left) (w.2 ∙ c.loop-k.invariant.3),
-    ))
-    c.if-device_hit.branch
+      some_without test c.loop-k.k _ (hit ∙ w.if-device_hit.false) (w.some-is ∙ c.loop-k.invariant.2),
+      least_without test c.loop-k.k refusal _ (hit ∙ w.if-device_hit.false) (w.least-is ∙ c.loop-k.invariant.3),
+    ) ]
 
 pub returns-then-some : goal.returns-then-some
 unfolding device_refusal

@@ -1,12 +1,12 @@
 -- `entryarcs::device_write` meets its contract. Invariant: what the arcs so far that are meant make of the sheet is written.
 use mathlib.Core.Path.{◌≡◌, refl, ◌∙◌, ap}
-use mathlib.Core.Logic.{⊎_elim}
 use native.Mathlib.Omega.{arith}
 use lib.ListN.{length}
 use Rattle.sheetlaws.specs.Sheet.{nth}
 use Rattle.applying.specs.Bytes.{written_of, device_written}
 use Rattle.entryarcs.specs.Turns.{written_with, written_without, arc-whole, arc-more, hits, writes, hit-is}
 use Rattle.entryarcs.proofs.device_write.Goals as goal
+use Rattle.entryarcs.proofs.device_write.Goals.{then-device_hit, else-device_hit}
 
 pub loop-k-init : goal.loop-k-init
 unfolding nth written_of
@@ -40,21 +40,18 @@ loop-k-preserved c =
     let hit = hit-is c.args.start.now c.args.text.now c.args.plan.slash c.args.plan.first c.args.entry c.args.instance c.loop-k.k c.loop-k.here _ c.loop-k.invariant.1
     c.device_hit.ensures in
     let next = arc-more c.args.start.now c.loop-k.k c.args.plan.first c.loop-k.here _ c.loop-k.invariant.1 c.next_arc-here.ensures in
-    ⊎_elim
-    (λ w. (
+    elim c.if-device_hit.branch [ then-device_hit w ↦ (
       omega arith,
       next,
-      written_with test c.loop-k.k write c.args.out.now _ c.loop-k.out (hit ∙ w.0.taken) c.loop-k.invariant.2
-          (w.7 ∙ w.4.ensures ∙ rw (w.1.ensures, c.loop-k.invariant.1)),
-      ap length w.7 ∙ w.5.given ∙ c.loop-k.invariant.3,
-    ))
-    (λ w. (
+      written_with test c.loop-k.k write c.args.out.now _ c.loop-k.out (hit ∙ w.if-device_hit.true) c.loop-k.invariant.2
+          (w.out-is ∙ w.write_arc.ensures ∙ rw (w.values_place-values.ensures, c.loop-k.invariant.1)),
+      c.if-device_hit.auto.out ∙ c.loop-k.invariant.3,
+    ) | else-device_hit w ↦ (
       omega arith,
       next,
-      written_without test c.loop-k.k write c.args.out.now _ (hit ∙ w.0.left) (w.1 ∙ c.loop-k.invariant.2),
-      ap length w.1 ∙ c.loop-k.invariant.3,
-    ))
-    c.if-device_hit.branch
+      written_without test c.loop-k.k write c.args.out.now _ (hit ∙ w.if-device_hit.false) (w.out-is ∙ c.loop-k.invariant.2),
+      c.if-device_hit.auto.out ∙ c.loop-k.invariant.3,
+    ) ]
 
 pub shape_of-out : goal.shape_of-out
 shape_of-out c =

@@ -1,11 +1,11 @@
 -- `entryseats::run_all` meets its contract. Invariant: the first i seats were run, with the least number.
 use mathlib.Core.Path.{◌≡◌, refl, sym, ◌∙◌, ap}
-use mathlib.Core.Logic.{⊎_elim}
 use native.Mathlib.Omega.{arith}
 use lib.ListN.{length}
 use Rattle.classes.specs.Choice.{pick}
 use Rattle.nearby.specs.Laws.{seats_none, seats_more, seats_pass, seats_end}
 use Rattle.entryseats.proofs.run_all.Goals as goal
+use Rattle.entryseats.proofs.run_all.Goals.{then-is_meant, else-is_meant}
 
 pub head_at-entry-requires : goal.head_at-entry-requires
 head_at-entry-requires c =
@@ -49,10 +49,7 @@ loop-i-smaller c =
 
 pub loop-i-preserved : goal.loop-i-preserved
 loop-i-preserved c =
-    ⊎_elim
-    (λ w. (omega (arith, c.loop-i-test.true), ap length w.7 ∙ w.4.given ∙ c.loop-i.invariant.1, rw (w.7, w.8, w.6.ensures) (seats_more c.args.start.now (pick c.args.side c.args.incoming.now c.args.file.now) c.args.plan.slash c.args.plan.instances c.args.entries.now c.args.row c.args.whom c.args.celltype.now c.args.arcs.now c.args.flags.now c.args.states.now c.loop-i.i c.loop-i.least _ c.loop-i.states _ (omega (arith, c.loop-i-test.true, c.loop-i.invariant.1, c.requires.6)) c.loop-i.invariant.2 w.3.ensures.1)))
-    (λ w. (omega (arith, c.loop-i-test.true), ap length w.1 ∙ c.loop-i.invariant.1, rw (w.1, w.2) (seats_pass c.args.start.now (pick c.args.side c.args.incoming.now c.args.file.now) c.args.plan.slash c.args.plan.instances c.args.entries.now c.args.row c.args.whom c.args.celltype.now c.args.arcs.now c.args.flags.now c.args.states.now c.loop-i.i c.loop-i.least c.loop-i.states (sym (rw c.head_at-entry.ensures at c.is_meant.ensures) ∙ w.0.left) c.loop-i.invariant.2)))
-    c.if-is_meant.branch
+    elim c.if-is_meant.branch [ then-is_meant w ↦ (omega (arith, c.loop-i-test.true), c.if-is_meant.auto.states ∙ c.loop-i.invariant.1, rw (w.states-is, w.least-is, w.lesser_of-least.ensures) (seats_more c.args.start.now (pick c.args.side c.args.incoming.now c.args.file.now) c.args.plan.slash c.args.plan.instances c.args.entries.now c.args.row c.args.whom c.args.celltype.now c.args.arcs.now c.args.flags.now c.args.states.now c.loop-i.i c.loop-i.least _ c.loop-i.states _ (omega (arith, c.loop-i-test.true, c.loop-i.invariant.1, c.requires.6)) c.loop-i.invariant.2 w.run_seat-number.ensures.1)) | else-is_meant w ↦ (omega (arith, c.loop-i-test.true), c.if-is_meant.auto.states ∙ c.loop-i.invariant.1, rw (w.states-is, w.least-is) (seats_pass c.args.start.now (pick c.args.side c.args.incoming.now c.args.file.now) c.args.plan.slash c.args.plan.instances c.args.entries.now c.args.row c.args.whom c.args.celltype.now c.args.arcs.now c.args.flags.now c.args.states.now c.loop-i.i c.loop-i.least c.loop-i.states (sym (rw c.head_at-entry.ensures at c.is_meant.ensures) ∙ w.if-is_meant.false) c.loop-i.invariant.2)) ]
 
 pub shape_of-states : goal.shape_of-states
 shape_of-states c =

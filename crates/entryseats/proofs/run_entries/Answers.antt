@@ -1,7 +1,6 @@
 -- `entryseats::run_entries` meets its contract. Invariant: the seats were run through the first k entries.
 use Prim.Native.Nat.{◌+◌, ◌*◌}
 use mathlib.Core.Path.{◌≡◌, refl, ◌∙◌, ap}
-use mathlib.Core.Logic.{⊎_elim}
 use native.Mathlib.Omega.{arith}
 use native.Mathlib.Numerals.{add-one}
 use lib.ListN.{length}
@@ -9,18 +8,11 @@ use Rattle.classes.specs.Choice.{pick}
 use Rattle.findseat.specs.Laws.{order_there}
 use Rattle.nearby.specs.Laws.{seats_unwanted, entries_none, entries_more, entries_stop, entries_end}
 use Rattle.entryseats.proofs.run_entries.Goals as goal
+use Rattle.entryseats.proofs.run_entries.Goals.{then-is_wanted, else-is_wanted}
 
 pub loop-k-init : goal.loop-k-init
 loop-k-init c =
     (omega arith, refl, entries_none c.args.start.now (pick c.args.side c.args.incoming.now c.args.file.now) c.args.plan.slash c.args.plan.instances c.args.plan.arcs c.args.plan.first c.args.side c.args.entries.now c.args.first c.args.some c.args.whom c.args.celltype.now c.args.event c.args.arcs.now c.args.flags.now c.args.states.now c.args.count)
-
-pub overflow_add-row : goal.overflow_add-row
-overflow_add-row c =
-    omega (arith, c.loop-k-test.true, c.requires.4, c.type_inv.1.1.1.1.1.1.1.0)
-
-pub overflow_mul-row : goal.overflow_mul-row
-overflow_mul-row c =
-    omega (arith, c.loop-k-test.true, c.requires.4, c.type_inv.1.1.1.1.1.1.1.0)
 
 pub head_at-entry-requires : goal.head_at-entry-requires
 head_at-entry-requires c =
@@ -38,25 +30,13 @@ pub overflow_add-result : goal.overflow_add-result
 overflow_add-result c =
     omega (arith, c.loop-k-test.true, c.requires.8)
 
-pub overflow_add-result-then-number-ne0 : goal.overflow_add-result-then-number-ne0
-overflow_add-result-then-number-ne0 c =
-    omega (arith, c.loop-k-test.true, c.requires.4, c.type_inv.1.1.1.1.1.1.1.0)
-
-pub offset_bounds-entries-row : goal.offset_bounds-entries-row
-offset_bounds-entries-row c =
-    omega (arith, c.loop-k-test.true, c.requires.4, c.type_inv.1.1.1.1.1.1.1.0)
-
-pub bounds-entries-row : goal.bounds-entries-row
-bounds-entries-row c =
-    omega (arith, c.loop-k-test.true, c.requires.4, c.type_inv.1.1.1.1.1.1.1.0)
-
 pub shape_of-states-then-number-ne0 : goal.shape_of-states-then-number-ne0
 shape_of-states-then-number-ne0 c =
     c.states-1.given ∙ c.loop-k.invariant.1
 
 pub returns-then-number-ne0 : goal.returns-then-number-ne0
 returns-then-number-ne0 c =
-    (c.states-1.given ∙ c.loop-k.invariant.1, entries_stop c.args.start.now (pick c.args.side c.args.incoming.now c.args.file.now) c.args.plan.slash c.args.plan.instances c.args.plan.arcs c.args.plan.first c.args.side c.args.entries.now c.args.first c.args.some c.args.whom c.args.celltype.now c.args.event c.args.arcs.now c.args.flags.now c.args.states.now c.args.count c.loop-k.k c.run_entry-number.result c.loop-k.states c.run_entry-number.new.1.1.1.1.1.1.1.1.1.1.1.1.1.1.0 c.loop-k-test.true c.loop-k.invariant.2 c.if-number-ne0.true (c.run_entry-number.ensures.1.1 c.if-number-ne0.true))
+    (c.states-1.given ∙ c.loop-k.invariant.1, entries_stop c.args.start.now (pick c.args.side c.args.incoming.now c.args.file.now) c.args.plan.slash c.args.plan.instances c.args.plan.arcs c.args.plan.first c.args.side c.args.entries.now c.args.first c.args.some c.args.whom c.args.celltype.now c.args.event c.args.arcs.now c.args.flags.now c.args.states.now c.args.count c.loop-k.k c.run_entry-number.result c.loop-k.states c.run_entry-number.new.states c.loop-k-test.true c.loop-k.invariant.2 c.if-number-ne0.true (c.run_entry-number.ensures.1.1 c.if-number-ne0.true))
 
 pub overflow_add-k : goal.overflow_add-k
 overflow_add-k c =
@@ -68,10 +48,7 @@ loop-k-smaller c =
 
 pub loop-k-preserved : goal.loop-k-preserved
 loop-k-preserved c =
-    ⊎_elim
-    (λ w. (omega (arith, c.loop-k-test.true), ap length w.6 ∙ w.3.given ∙ c.loop-k.invariant.1, rw (w.6, add-one) (entries_more c.args.start.now (pick c.args.side c.args.incoming.now c.args.file.now) c.args.plan.slash c.args.plan.instances c.args.plan.arcs c.args.plan.first c.args.side c.args.entries.now c.args.first c.args.some c.args.whom c.args.celltype.now c.args.event c.args.arcs.now c.args.flags.now c.args.states.now c.args.count c.loop-k.k c.loop-k.states _ c.loop-k-test.true c.loop-k.invariant.2 (w.2.ensures.1.0 w.5.left))))
-    (λ w. (omega (arith, c.loop-k-test.true), ap length w.1 ∙ c.loop-k.invariant.1, rw (w.1, add-one) (entries_more c.args.start.now (pick c.args.side c.args.incoming.now c.args.file.now) c.args.plan.slash c.args.plan.instances c.args.plan.arcs c.args.plan.first c.args.side c.args.entries.now c.args.first c.args.some c.args.whom c.args.celltype.now c.args.event c.args.arcs.now c.args.flags.now c.args.states.now c.args.count c.loop-k.k c.loop-k.states c.loop-k.states c.loop-k-test.true c.loop-k.invariant.2 (seats_unwanted c.args.start.now (pick c.args.side c.args.incoming.now c.args.file.now) c.args.plan.slash c.args.plan.instances c.args.entries.now (28 * (c.args.first + c.loop-k.k)) c.args.whom c.args.celltype.now c.args.arcs.now c.args.flags.now c.loop-k.states c.args.count (rw c.head_at-entry.ensures at (c.is_wanted.ensures w.0.left))))))
-    c.if-is_wanted.branch
+    elim c.if-is_wanted.branch [ then-is_wanted w ↦ (omega (arith, c.loop-k-test.true), c.if-is_wanted.auto.states ∙ c.loop-k.invariant.1, rw (w.states-is, add-one) (entries_more c.args.start.now (pick c.args.side c.args.incoming.now c.args.file.now) c.args.plan.slash c.args.plan.instances c.args.plan.arcs c.args.plan.first c.args.side c.args.entries.now c.args.first c.args.some c.args.whom c.args.celltype.now c.args.event c.args.arcs.now c.args.flags.now c.args.states.now c.args.count c.loop-k.k c.loop-k.states _ c.loop-k-test.true c.loop-k.invariant.2 (w.run_entry-number.ensures.1.0 w.if-number-ne0.false))) | else-is_wanted w ↦ (omega (arith, c.loop-k-test.true), c.if-is_wanted.auto.states ∙ c.loop-k.invariant.1, rw (w.states-is, add-one) (entries_more c.args.start.now (pick c.args.side c.args.incoming.now c.args.file.now) c.args.plan.slash c.args.plan.instances c.args.plan.arcs c.args.plan.first c.args.side c.args.entries.now c.args.first c.args.some c.args.whom c.args.celltype.now c.args.event c.args.arcs.now c.args.flags.now c.args.states.now c.args.count c.loop-k.k c.loop-k.states c.loop-k.states c.loop-k-test.true c.loop-k.invariant.2 (seats_unwanted c.args.start.now (pick c.args.side c.args.incoming.now c.args.file.now) c.args.plan.slash c.args.plan.instances c.args.entries.now (28 * (c.args.first + c.loop-k.k)) c.args.whom c.args.celltype.now c.args.arcs.now c.args.flags.now c.loop-k.states c.args.count (rw c.head_at-entry.ensures at (c.is_wanted.ensures w.if-is_wanted.false))))) ]
 
 pub shape_of-states : goal.shape_of-states
 shape_of-states c =

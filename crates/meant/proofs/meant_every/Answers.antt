@@ -11,7 +11,7 @@ pub returns-then-not-meant_on : goal.returns-then-not-meant_on
 unfolding name_of_it
 returns-then-not-meant_on c =
     let text = pick c.args.side c.args.incoming.now c.args.file.now in
-    let m = rw (not-true c.meant_on.result c.if-not-meant_on.true, c.only_path-path.ensures, c.name_of-written.ensures) at c.meant_on.ensures in
+    let m = rw (c.if-not-meant_on.true, c.only_path-path.ensures, c.name_of-written.ensures) at c.meant_on.ensures in
     sym (every-not c.args.start.now text c.args.plan.slash c.args.entry c.args.plan.instances c.requires.0.good c.args.celltype.now c.args.arc m)
 
 pub instance_type-requires : goal.instance_type-requires
@@ -29,7 +29,7 @@ pub returns-in-At : goal.returns-in-At
 unfolding name_of_it
 returns-in-At c =
     let text = pick c.args.side c.args.incoming.now c.args.file.now in
-    let m = rw (not-false c.meant_on.result c.if-not-meant_on.false, c.only_path-path.ensures, c.name_of-written.ensures) at c.meant_on.ensures in
+    let m = rw (c.if-not-meant_on.false, c.only_path-path.ensures, c.name_of-written.ensures) at c.meant_on.ensures in
     let z = sym (rw (dotted, c.only_path-path.ensures, c.name_of-written.ensures) at c.find_instance-found.ensures) ∙ c.in-At.is in
     (rw c.instance_type.ensures at c.same_text.ensures)
     ∙ sym (every-found c.args.start.now text c.args.plan.slash c.args.entry c.args.plan.instances c.requires.0.good c.args.celltype.now c.args.arc

@@ -13,8 +13,7 @@ pub returns-then-not-may_follow : goal.returns-then-not-may_follow
 returns-then-not-may_follow c =
     sym (text_turn c.args.text.now c.loop-i.escaped c.loop-i.i (search rules) ∙ rw (
       ← c.may_follow.ensures,
-      not-true
-          c.may_follow.result c.if-not-may_follow.true,
+      c.if-not-may_follow.true,
     )) ∙ c.loop-i.invariant.1
 
 pub loop-i-preserved : goal.loop-i-preserved
@@ -23,7 +22,7 @@ loop-i-preserved c =
       search rules,
       sym (text_turn c.args.text.now c.loop-i.escaped c.loop-i.i (search rules) ∙ rw (
         ← c.may_follow.ensures,
-        not-false c.may_follow.result c.if-not-may_follow.false,
+        c.if-not-may_follow.false,
         ← c.escape-escaped.ensures,
       )) ∙ c.loop-i.invariant.1,
     )

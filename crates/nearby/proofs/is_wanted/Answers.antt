@@ -36,7 +36,7 @@ loop-i-smaller c =
 
 pub loop-i-preserved : goal.loop-i-preserved
 loop-i-preserved c =
-    (omega (arith, c.loop-i-test.true), one_more _ c.loop-i.i c.loop-i.invariant.1 (rw c.arc_kind.ensures at (sym fits2.ensures ∙ c.if-fits.false)))
+    (omega (arith, c.loop-i-test.true), one_more _ c.loop-i.i c.loop-i.invariant.1 (rw c.arc_kind.ensures at (sym c.fits.ensures ∙ c.if-fits.false)))
 
 pub returns : goal.returns
 returns c =

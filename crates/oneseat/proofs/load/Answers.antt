@@ -10,10 +10,6 @@ use Rattle.oneseat.proofs.load.Goals as goal
 pub loop-k-init : goal.loop-k-init
 loop-k-init c = (omega arith, refl, refl)
 
-pub overflow_add-part : goal.overflow_add-part
-overflow_add-part c =
-    omega (arith, c.requires, c.loop-k.invariant.2, c.type_inv.0)
-
 pub bounds-table-at : goal.bounds-table-at
 bounds-table-at c =
     omega (arith, c.requires, c.loop-k.invariant.2)

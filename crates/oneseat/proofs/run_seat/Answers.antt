@@ -4,18 +4,14 @@ use native.Mathlib.Omega.{arith}
 use lib.ListN.{length}
 use Rattle.oneseat.proofs.run_seat.Goals as goal
 
-pub overflow_mul-seat-then-number-eq0 : goal.overflow_mul-seat-then-number-eq0
-overflow_mul-seat-then-number-eq0 c =
-    omega (arith, c.requires.5, c.type_inv.1.1.1.1.1.1.1.1.1.1.1.1.0)
-
 pub returns-then-number-eq0 : goal.returns-then-number-eq0
 returns-then-number-eq0 c =
-    let l : length c.run_entry-number.new.1.1.1.1.1.1.1.1.1.1.1.1.0 ≡ 144 = c.state-4-1.given in (
+    let l : length c.run_entry-number.new.state ≡ 144 = c.state-4-1.given in (
       c.states-1.given,
       (
         rw (c.load.ensures, c.load-2.ensures) at c.run_entry-number.ensures.0,
         (λ d. absurd (d c.if-number-eq0.true)),
-        λ e. (c.run_entry-number.new.1.1.1.1.1.1.1.1.1.1.1.1.0, l, rw l at c.store.ensures, rw (c.load.ensures, c.load-2.ensures) at c.run_entry-number.ensures.1),
+        λ e. (c.run_entry-number.new.state, l, rw l at c.store.ensures, rw (c.load.ensures, c.load-2.ensures) at c.run_entry-number.ensures.1),
       ),
     )
 

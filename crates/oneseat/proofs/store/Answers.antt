@@ -10,10 +10,6 @@ pub loop-k-init : goal.loop-k-init
 loop-k-init c =
     (omega arith, paste-zero c.args.table.now c.args.at c.args.part.now, refl)
 
-pub overflow_add-table : goal.overflow_add-table
-overflow_add-table c =
-    omega (arith, c.requires, c.type_inv.0)
-
 pub bounds-table-at : goal.bounds-table-at
 bounds-table-at c =
     omega (arith, c.requires, c.loop-k.invariant.2)

@@ -7,32 +7,11 @@ use Rattle.meaning.specs.Cells.{entries_within}
 use Rattle.patch.specs.PatchLaws.{cell_unread, none_come, cell_ready, cell_read, one-comes}
 use Rattle.patch.proofs.patch_cell.Goals as goal
 
-pub count_entries-requires : goal.count_entries-requires
-count_entries-requires c =
-    let w = entries_within c.args.cells.now c.args.outgoing c.args.count c.requires.4 in
-    (omega (arith, c.requires.2, c.requires.4), omega (arith, w, c.requires.3, c.type_inv.1.1.1.1.1.1.1.1.1.0))
-
-pub overflow_mul-swap : goal.overflow_mul-swap
-overflow_mul-swap c =
-    omega (arith, c.requires.2, c.requires.4, c.type_inv.1.1.1.1.1.1.1.0)
-
-pub overflow_add-swap : goal.overflow_add-swap
-overflow_add-swap c =
-    omega (arith, c.requires.2, c.requires.4, c.type_inv.1.1.1.1.1.1.1.0)
-
-pub offset_bounds-cells-outgoing : goal.offset_bounds-cells-outgoing
-offset_bounds-cells-outgoing c =
-    omega (arith, c.requires.2, c.requires.4, c.type_inv.1.1.1.1.1.1.1.0)
-
-pub bounds-cells-outgoing : goal.bounds-cells-outgoing
-bounds-cells-outgoing c =
-    omega (arith, c.requires.2, c.requires.4, c.type_inv.1.1.1.1.1.1.1.0)
-
 pub bounds-cells2-6 : goal.bounds-cells2-6
 bounds-cells2-6 c =
     let ready = cell_ready c.args.start.now c.args.plan.instances c.args.plan.arcs c.args.plan.first c.args.file.now
     c.args.incoming.now c.args.plan.slash c.args.unit c.args.cells.now c.args.entries.now c.args.count c.args.outgoing
-    c.args.cells2.now c.read_cell-read.new.1.1.1.0 c.args.entries2.now c.read_cell-read.new.1.1.1.1.0 c.read_cell-read.result
+    c.args.cells2.now c.read_cell-read.new.cells c.args.entries2.now c.read_cell-read.new.entries c.read_cell-read.result
     c.read_cell-read.ensures c.in-Read.one c.in-Read.all c.in-Read.is
     (record {
       outgoing = c.args.outgoing;
@@ -40,7 +19,7 @@ bounds-cells2-6 c =
       before = c.count_entries.result;
       leaving = get_or c.args.cells.now
           (7 * c.args.outgoing + 6) 0;
-      coming = get_or c.read_cell-read.new.1.1.1.0 6 0;
+      coming = get_or c.read_cell-read.new.cells 6 0;
     }) c.requires.2 c.requires.3 c.requires.4 refl refl c.count_entries.ensures
     refl refl in
     omega (arith, ready.room2)
@@ -51,7 +30,7 @@ swap_cell-swapped-requires c =
       c.requires.0,
       cell_ready c.args.start.now c.args.plan.instances c.args.plan.arcs c.args.plan.first c.args.file.now
           c.args.incoming.now c.args.plan.slash c.args.unit c.args.cells.now c.args.entries.now c.args.count c.args.outgoing
-          c.args.cells2.now c.read_cell-read.new.1.1.1.0 c.args.entries2.now c.read_cell-read.new.1.1.1.1.0 c.read_cell-read.result
+          c.args.cells2.now c.read_cell-read.new.cells c.args.entries2.now c.read_cell-read.new.entries c.read_cell-read.result
           c.read_cell-read.ensures c.in-Read.one c.in-Read.all c.in-Read.is
           (record {
             outgoing = c.args.outgoing;
@@ -59,7 +38,7 @@ swap_cell-swapped-requires c =
             before = c.count_entries.result;
             leaving = get_or c.args.cells.now
                 (7 * c.args.outgoing + 6) 0;
-            coming = get_or c.read_cell-read.new.1.1.1.0 6 0;
+            coming = get_or c.read_cell-read.new.cells 6 0;
           }) c.requires.2 c.requires.3 c.requires.4 refl refl c.count_entries.ensures
           refl refl,
       c.requires.1,
@@ -70,12 +49,12 @@ returns-in-Refused c =
     rw c.refused_after.ensures (
       cell_unread c.args.start.now c.args.plan.instances c.args.plan.arcs c.args.plan.first c.args.file.now
           c.args.incoming.now c.args.plan.slash c.args.unit c.args.cells.now c.args.entries.now c.args.count c.args.outgoing
-          c.args.cells2.now c.read_cell-read.new.1.1.1.0 c.args.entries2.now c.read_cell-read.new.1.1.1.1.0 c.read_cell-read.result
+          c.args.cells2.now c.read_cell-read.new.cells c.args.entries2.now c.read_cell-read.new.entries c.read_cell-read.result
           c.read_cell-read.ensures c.in-Refused.number c.in-Refused.place c.in-Refused.is c.args.current.now,
       refl,
       none_come c.args.start.now c.args.plan.instances c.args.plan.arcs c.args.plan.first c.args.file.now
           c.args.incoming.now c.args.plan.slash c.args.unit c.args.cells.now c.args.entries.now c.args.count c.args.outgoing
-          c.args.cells2.now c.read_cell-read.new.1.1.1.0 c.args.entries2.now c.read_cell-read.new.1.1.1.1.0 c.read_cell-read.result
+          c.args.cells2.now c.read_cell-read.new.cells c.args.entries2.now c.read_cell-read.new.entries c.read_cell-read.result
           c.read_cell-read.ensures c.in-Refused.number c.in-Refused.place c.in-Refused.is,
     )
 
@@ -84,18 +63,18 @@ returns-in-Read c =
     (
       cell_read c.args.start.now c.args.plan.instances c.args.plan.arcs c.args.plan.first c.args.file.now c.args.incoming.now
           c.args.plan.slash c.args.unit c.args.cells.now c.args.entries.now c.args.count c.args.outgoing c.args.cells2.now
-          c.read_cell-read.new.1.1.1.0 c.args.entries2.now c.read_cell-read.new.1.1.1.1.0 c.read_cell-read.result c.read_cell-read.ensures
+          c.read_cell-read.new.cells c.args.entries2.now c.read_cell-read.new.entries c.read_cell-read.result c.read_cell-read.ensures
           c.in-Read.one c.in-Read.all c.in-Read.is c.requires.4 (record {
             outgoing = c.args.outgoing;
             cells = c.args.count;
             before = c.count_entries.result;
             leaving = get_or c.args.cells.now (7 * c.args.outgoing + 6) 0;
-            coming = get_or c.read_cell-read.new.1.1.1.0 6
+            coming = get_or c.read_cell-read.new.cells 6
                 0;
-          }) refl refl c.args.current.now c.swap_cell-swapped.new.1.1.1.1.1.1.1.1.1.0 c.swap_cell-swapped.result c.swap_cell-swapped.ensures,
+          }) refl refl c.args.current.now c.swap_cell-swapped.new.current c.swap_cell-swapped.result c.swap_cell-swapped.ensures,
       refl,
       one-comes c.args.start.now c.args.plan.instances c.args.plan.arcs c.args.plan.first c.args.file.now
           c.args.incoming.now c.args.plan.slash c.args.unit c.args.cells.now c.args.entries.now c.args.count c.args.outgoing
-          c.args.cells2.now c.read_cell-read.new.1.1.1.0 c.args.entries2.now c.read_cell-read.new.1.1.1.1.0 c.read_cell-read.result
+          c.args.cells2.now c.read_cell-read.new.cells c.args.entries2.now c.read_cell-read.new.entries c.read_cell-read.result
           c.read_cell-read.ensures c.in-Read.one c.in-Read.all c.in-Read.is,
     )

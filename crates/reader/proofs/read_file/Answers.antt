@@ -17,4 +17,4 @@ returns-in-Refused c =
 pub returns-in-Read : goal.returns-in-Read
 returns-in-Read c =
     let a = rw c.in-Read.is at c.read_all-first.ensures in
-    file_read _ _ (length c.args.cells.now / 7) (length c.args.entries.now / 28) c.in-Read.n c.in-Read.m _ _ _ _ _ _ _ c.read_all.new.1.1.1.1.1.1.0 _ c.read_all.result.slash _ c.read_all.result.unit c.read_all.result.answer _ (short_enough (length c.args.cells.now / 7) (length c.args.entries.now / 28) c.args.text.now c.if-text-gt-LIMIT.false) a c.read_all.ensures (refl, refl, refl, refl)
+    file_read _ _ (length c.args.cells.now / 7) (length c.args.entries.now / 28) c.in-Read.n c.in-Read.m _ _ _ _ _ _ _ c.read_all.new.texts _ c.read_all.result.slash _ c.read_all.result.unit c.read_all.result.answer _ (short_enough (length c.args.cells.now / 7) (length c.args.entries.now / 28) c.args.text.now c.if-text-gt-LIMIT.false) a c.read_all.ensures (refl, refl, refl, refl)

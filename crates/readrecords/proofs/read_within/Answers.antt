@@ -1,10 +1,5 @@
 -- `readrecords::read_within` meets its contract.
-use Prim.Native.Nat.{◌*◌, ◌/◌, ◌≤◌}
-use mathlib.Core.Path.{◌≡◌, sym}
-use native.Mathlib.Omega.{arith}
-use lib.ListN.{length, take}
-use lib.Seq.{length-take-le}
-use borrow.Author.Rules.{rules}
+use Rattle.std.proofs.Common.{◌*◌, ◌/◌, ◌≤◌, ◌≡◌, sym, arith, length, take, length-take-le, rules}
 use Rattle.grammar.specs.Outcome.{read_file}
 use Rattle.readrecords.specs.ReadingLaws.{within-part, within-whole}
 use Rattle.readrecords.proofs.read_within.Goals as goal
@@ -16,12 +11,12 @@ slice_bounds-read_file-end-then-room-table c =
 
 pub returns-then-room-table : goal.returns-then-room-table
 returns-then-room-table c =
-    let same : length c.read_file.new.1.0 ≡ length (take (7 * c.args.room) c.args.table.now) = search rules in
-    within-part (λ k. read_file k (length c.args.entries.now / 28) c.args.text.now) c.args.room c.args.table.now c.read_file.new.1.0
-    c.args.entries.now c.read_file.new.1.1.0 c.read_file.result c.if-room-table.true c.read_file.ensures same
+    let same : length c.read_file.new.cells ≡ length (take (7 * c.args.room) c.args.table.now) = search rules in
+    within-part (λ k. read_file k (length c.args.entries.now / 28) c.args.text.now) c.args.room c.args.table.now c.read_file.new.cells
+    c.args.entries.now c.read_file.new.entries c.read_file.result c.if-room-table.true c.read_file.ensures same
 
 pub returns : goal.returns
 returns c =
-    let same : length c.read_file-2.new.1.0 ≡ length c.args.table.now = search rules in
-    within-whole (λ k. read_file k (length c.args.entries.now / 28) c.args.text.now) c.args.room c.args.table.now c.read_file-2.new.1.0
-    c.args.entries.now c.read_file-2.new.1.1.0 c.read_file-2.result c.if-room-table.false c.read_file-2.ensures same
+    let same : length c.read_file-2.new.cells ≡ length c.args.table.now = search rules in
+    within-whole (λ k. read_file k (length c.args.entries.now / 28) c.args.text.now) c.args.room c.args.table.now c.read_file-2.new.cells
+    c.args.entries.now c.read_file-2.new.entries c.read_file-2.result c.if-room-table.false c.read_file-2.ensures same

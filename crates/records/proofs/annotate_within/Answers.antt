@@ -15,14 +15,14 @@ slice_bounds-annotate_counted-end-then-room-table c =
 
 pub returns-then-room-table : goal.returns-then-room-table
 returns-then-room-table c =
-    let same : length c.annotate_counted.new.1.1.0 ≡ length (take (7 * c.args.room) c.args.table.now) = search rules in
+    let same : length c.annotate_counted.new.cells ≡ length (take (7 * c.args.room) c.args.table.now) = search rules in
     counted_part c.args.start.now c.args.text.now (length c.args.entries.now / 28) (length c.args.out.now) c.args.room c.args.table.now
-    c.annotate_counted.new.1.1.0 c.args.entries.now c.annotate_counted.new.1.1.1.0 c.args.out.now c.annotate_counted.new.1.1.1.1.0 c.annotate_counted.result
+    c.annotate_counted.new.cells c.args.entries.now c.annotate_counted.new.entries c.args.out.now c.annotate_counted.new.out c.annotate_counted.result
     c.if-room-table.true c.annotate_counted.ensures same
 
 pub returns : goal.returns
 returns c =
-    let same : length c.annotate_counted-2.new.1.1.0 ≡ length c.args.table.now = search rules in
+    let same : length c.annotate_counted-2.new.cells ≡ length c.args.table.now = search rules in
     counted_whole c.args.start.now c.args.text.now (length c.args.entries.now / 28) (length c.args.out.now) c.args.room c.args.table.now
-    c.annotate_counted-2.new.1.1.0 c.args.entries.now c.annotate_counted-2.new.1.1.1.0 c.args.out.now c.annotate_counted-2.new.1.1.1.1.0 c.annotate_counted-2.result
+    c.annotate_counted-2.new.cells c.args.entries.now c.annotate_counted-2.new.entries c.args.out.now c.annotate_counted-2.new.out c.annotate_counted-2.result
     c.if-room-table.false c.annotate_counted-2.ensures same

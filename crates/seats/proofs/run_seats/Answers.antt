@@ -46,4 +46,4 @@ shape_of-states c =
 pub returns : goal.returns
 unfolding name_of_it
 returns c =
-    (c.run_entries.ensures.0, seats_ran c.args.start.now (pick c.args.side c.args.incoming.now c.args.file.now) c.args.plan.slash c.args.plan.instances c.args.plan.arcs c.args.plan.first c.args.side c.args.cells.now c.args.row c.args.entries.now c.args.first c.args.event c.args.arcs.now c.args.flags.now c.args.states.now c.args.count c.whom_of-whom.result c.run_entries.new.1.1.1.1.1.1.1.1.1.1.1.1.1.1.1.0 c.run_entries.result (sym (rw (c.text_of.ensures, c.cell_at-cell.ensures) at c.whom_of-whom.ensures.0)) (rw (c.name_of-celltype.ensures, c.cell_at-cell.ensures) at c.run_entries.ensures.1))
+    (c.run_entries.ensures.0, seats_ran c.args.start.now (pick c.args.side c.args.incoming.now c.args.file.now) c.args.plan.slash c.args.plan.instances c.args.plan.arcs c.args.plan.first c.args.side c.args.cells.now c.args.row c.args.entries.now c.args.first c.args.event c.args.arcs.now c.args.flags.now c.args.states.now c.args.count c.whom_of-whom.result c.run_entries.new.states c.run_entries.result (sym (rw (c.text_of.ensures, c.cell_at-cell.ensures) at c.whom_of-whom.ensures.0)) (rw (c.name_of-celltype.ensures, c.cell_at-cell.ensures) at c.run_entries.ensures.1))

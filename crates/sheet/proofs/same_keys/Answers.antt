@@ -33,8 +33,7 @@ returns-then-not-same_part c =
     ∙ rw (
       ← c.values_place-end.ensures,
       ← c.same_part.ensures,
-      not-true c.same_part.result
-          c.if-not-same_part.true,
+      c.if-not-same_part.true,
     )) ∙ c.loop-k.invariant.2
 
 pub overflow_add-here : goal.overflow_add-here
@@ -52,8 +51,7 @@ loop-k-preserved c =
           c.loop-k.here (search rules) ∙ rw (
             ← c.values_place-end.ensures,
             ← c.same_part.ensures,
-            not-false
-                c.same_part.result c.if-not-same_part.false,
+            c.if-not-same_part.false,
           )) ∙ c.loop-k.invariant.2,
     )
 

@@ -15,9 +15,6 @@ loop-k-init c =
 pub ar_step-t-requires : goal.ar_step-t-requires
 ar_step-t-requires c = (c.loop-k.invariant.1, c.loop-k.invariant.2)
 
-pub enum_known-t : goal.enum_known-t
-enum_known-t c = c.in-Next.in-Next-own.keys1
-
 pub returns-in_default : goal.returns-in_default
 returns-in_default c =
     (

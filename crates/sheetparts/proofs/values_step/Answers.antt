@@ -12,9 +12,6 @@ use Rattle.sheetparts.proofs.values_step.Goals as goal
 pub loop-i-init : goal.loop-i-init
 loop-i-init c = (search rules, search rules, let e : c.args.count - 0 ≡ c.args.count = omega arith in rw e)
 
-pub enum_known-t : goal.enum_known-t
-enum_known-t c = c.in-Next.in-Next-own.keys1
-
 pub returns-in_default : goal.returns-in_default
 returns-in_default c =
     (

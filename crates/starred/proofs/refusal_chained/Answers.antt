@@ -5,10 +5,10 @@ use Rattle.bytype.specs.Chains.{chain_head, chain_next, skip_head, skip_next}
 use Rattle.bytype.specs.ByType.{bucket_of, type_bucket, link_place, other_bucket}
 use Rattle.sheet.specs.Find.{in_there}
 use native.Mathlib.Omega.{arith}
-use mathlib.Core.Logic.{⊎_elim}
 use mathlib.Core.Path.{◌≡◌, sym, ◌∙◌}
 use Prim.Native.Nat.{◌<◌}
 use Rattle.starred.proofs.refusal_chained.Goals as goal
+use Rattle.starred.proofs.refusal_chained.Goals.{then-is_of, else-is_of}
 
 pub offset_bounds-index-bucket : goal.offset_bounds-index-bucket
 offset_bounds-index-bucket c = omega (arith, c.bucket_of-bucket.ensures.1)
@@ -84,10 +84,7 @@ loop-k-preserved c =
     let is = type-is c.args.start.now c.args.celltype.now c.loop-k.k _ _ e c.is_of.ensures in
     let skip = skip_next link_place (type_bucket c.args.start.now) c.args.plan.instances c.args.index.now c.requires.2.chain (bucket_of c.args.celltype.now) test (other_bucket c.args.start.now c.args.celltype.now) (least_of test refusal) (least-same test refusal) c.loop-k.k _ low c.loop-k.invariant.0 c.widen-k-in-loop-k.ensures in (
       (chain_next link_place (type_bucket c.args.start.now) c.args.plan.instances c.args.index.now c.requires.2.chain (bucket_of c.args.celltype.now) c.loop-k.k _ low c.loop-k.invariant.0 c.widen-k-in-loop-k.ensures).0,
-      ⊎_elim
-          (λ w. least_with test c.loop-k.k refusal _ c.loop-k.least (is ∙ w.0.taken) c.loop-k.invariant.1 (w.3 ∙ w.2.ensures ∙ rw (w.1.ensures, e)) ∙ sym skip)
-          (λ w. least_without test c.loop-k.k refusal _ (is ∙ w.0.left) (w.1 ∙ c.loop-k.invariant.1) ∙ sym skip)
-          c.if-is_of.branch,
+      elim c.if-is_of.branch [ then-is_of w ↦ least_with test c.loop-k.k refusal _ c.loop-k.least (is ∙ w.if-is_of.true) c.loop-k.invariant.1 (w.least-is ∙ w.lesser_of-least.ensures ∙ rw (w.refusal_at.ensures, e)) ∙ sym skip | else-is_of w ↦ least_without test c.loop-k.k refusal _ (is ∙ w.if-is_of.false) (w.least-is ∙ c.loop-k.invariant.1) ∙ sym skip ],
     )
 
 pub returns : goal.returns

@@ -6,10 +6,10 @@ use Rattle.bytype.specs.ByType.{bucket_of, type_bucket, link_place, other_bucket
 use Rattle.sheet.specs.Find.{in_there}
 use lib.ListN.{length}
 use native.Mathlib.Omega.{arith}
-use mathlib.Core.Logic.{⊎_elim}
 use mathlib.Core.Path.{◌≡◌, refl, sym, ◌∙◌, ap}
 use Prim.Native.Nat.{◌<◌}
 use Rattle.starred.proofs.write_chained.Goals as goal
+use Rattle.starred.proofs.write_chained.Goals.{then-is_of, else-is_of}
 
 pub offset_bounds-index-bucket : goal.offset_bounds-index-bucket
 offset_bounds-index-bucket c = omega (arith, c.bucket_of-bucket.ensures.1)
@@ -87,14 +87,11 @@ loop-k-preserved c =
     let is = type-is c.args.start.now c.args.celltype.now c.loop-k.k _ _ e c.is_of.ensures in
     let skip = skip_next link_place (type_bucket c.args.start.now) c.args.plan.instances c.args.index.now c.requires.2.chain (bucket_of c.args.celltype.now) test (other_bucket c.args.start.now c.args.celltype.now) (written_of test write c.args.out.now) (written_same test write c.args.out.now) c.loop-k.k _ low c.loop-k.invariant.0 c.widen-k-in-loop-k.ensures in
     let on = (chain_next link_place (type_bucket c.args.start.now) c.args.plan.instances c.args.index.now c.requires.2.chain (bucket_of c.args.celltype.now) c.loop-k.k _ low c.loop-k.invariant.0 c.widen-k-in-loop-k.ensures).0 in
-    ⊎_elim
-    (λ w. (
+    elim c.if-is_of.branch [ then-is_of w ↦ (
       on,
-      written_with test c.loop-k.k write c.args.out.now _ c.loop-k.out (is ∙ w.0.taken) c.loop-k.invariant.1 (w.5 ∙ w.2.ensures ∙ rw e refl) ∙ sym skip,
-      ap length w.5 ∙ w.3.given ∙ c.loop-k.invariant.2,
-    ))
-    (λ w. (on, written_without test c.loop-k.k write c.args.out.now _ (is ∙ w.0.left) (w.1 ∙ c.loop-k.invariant.1) ∙ sym skip, ap length w.1 ∙ c.loop-k.invariant.2))
-    c.if-is_of.branch
+      written_with test c.loop-k.k write c.args.out.now _ c.loop-k.out (is ∙ w.if-is_of.true) c.loop-k.invariant.1 (w.out-is ∙ w.write_at.ensures ∙ rw e refl) ∙ sym skip,
+      c.if-is_of.auto.out ∙ c.loop-k.invariant.2,
+    ) | else-is_of w ↦ (on, written_without test c.loop-k.k write c.args.out.now _ (is ∙ w.if-is_of.false) (w.out-is ∙ c.loop-k.invariant.1) ∙ sym skip, c.if-is_of.auto.out ∙ c.loop-k.invariant.2) ]
 
 pub shape_of-out : goal.shape_of-out
 shape_of-out c = c.loop-k.invariant.2

@@ -17,20 +17,6 @@ mark_arcs-requires c =
     let s = sheet_good c.args.start.now c.args.plan.instances c.args.plan.arcs c.args.plan.first c.requires.0 in
     (s.arcs, s.short)
 
-pub overflow_add-at : goal.overflow_add-at
-overflow_add-at c =
-    let fit = events_fit c.requires.1 (omega (arith, c.type_inv.1.1.1.1.1.0)) (omega (arith, c.type_inv.1.1.1.1.1.1.0)) (omega (arith, c.type_inv.1.1.1.1.1.1.1.1.0)) in
-    omega (arith, fit)
-
-pub own_fault-own-requires : goal.own_fault-own-requires
-own_fault-own-requires c =
-    let fit = events_fit c.requires.1 (omega (arith, c.type_inv.1.1.1.1.1.0)) (omega (arith, c.type_inv.1.1.1.1.1.1.0)) (omega (arith, c.type_inv.1.1.1.1.1.1.1.1.0)) in
-    (rw c.mark_instances.ensures (instances_ready c.args.start.now c.args.plan.instances c.args.plan.arcs c.args.plan.first _ (sheet_good c.args.start.now c.args.plan.instances c.args.plan.arcs c.args.plan.first c.requires.0) (search rules)), rw c.mark_arcs.ensures (arcs_ready c.args.start.now c.args.plan.instances c.args.plan.arcs c.args.plan.first _ (sheet_good c.args.start.now c.args.plan.instances c.args.plan.arcs c.args.plan.first c.requires.0) (search rules)), c.requires.1.room2, omega (arith, c.requires.1.coming, c.requires.1.entries_room2), omega (arith, fit, c.requires.1.coming))
-
-pub overflow_mul-swap : goal.overflow_mul-swap
-overflow_mul-swap c =
-    omega (arith, c.requires.1.room, c.requires.1.there, c.type_inv.1.1.1.1.1.0)
-
 pub whom_of-leaver-requires : goal.whom_of-leaver-requires
 whom_of-leaver-requires c =
     rw c.mark_instances.ensures (instances_ready c.args.start.now c.args.plan.instances c.args.plan.arcs c.args.plan.first _ (sheet_good c.args.start.now c.args.plan.instances c.args.plan.arcs c.args.plan.first c.requires.0) (search rules))

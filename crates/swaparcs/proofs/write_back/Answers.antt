@@ -1,7 +1,6 @@
 -- `swaparcs::write_back` meets its contract. Invariant: the values so far are written.
 use Prim.Native.Nat.{ℕ, ◌+◌, ◌*◌}
 use mathlib.Core.Path.{◌≡◌, refl, ◌∙◌, ap}
-use mathlib.Core.Logic.{⊎_elim}
 use native.Mathlib.Omega.{arith}
 use lib.ListN.{length}
 use lib.Seq.{paste}
@@ -11,6 +10,7 @@ use Rattle.amounts.specs.Turns.{bits_back}
 use Rattle.patching.specs.Scratch.{back_written}
 use Rattle.swaparcs.specs.Turns.{value_with, value_without}
 use Rattle.swaparcs.proofs.write_back.Goals as goal
+use Rattle.swaparcs.proofs.write_back.Goals.{then-flags-slot-ne0, else-flags-slot-ne0}
 
 pub loop-slot-init : goal.loop-slot-init
 unfolding back_written
@@ -34,21 +34,18 @@ write_i64-requires c =
 
 pub loop-slot-preserved : goal.loop-slot-preserved
 loop-slot-preserved c =
-    ⊎_elim
-    (λ w. (
+    elim c.if-flags-slot-ne0.branch [ then-flags-slot-ne0 w ↦ (
       omega arith,
       value_with c.args.current.now c.args.at c.args.state.now c.args.flags.now c.loop-slot.slot _ c.loop-slot.current c.loop-slot.invariant.1
-          w.0.taken (w.7 ∙ w.4.ensures ∙ ap (λ (n : ℕ). paste c.loop-slot.current (c.args.at + 8 * c.loop-slot.slot) (be_bytes n) 8)
-          (bits_back w.3.result w.1.result (search rules) w.3.ensures ∙ w.1.ensures)),
-      ap length w.7 ∙ w.5.given ∙ c.loop-slot.invariant.2,
-    ))
-    (λ w. (
+          w.if-flags-slot-ne0.true (w.current-is ∙ w.write_i64.ensures ∙ ap (λ (n : ℕ). paste c.loop-slot.current (c.args.at + 8 * c.loop-slot.slot) (be_bytes n) 8)
+          (bits_back w.of_bits.result w.u64_at-word.result (search rules) w.of_bits.ensures ∙ w.u64_at-word.ensures)),
+      c.if-flags-slot-ne0.auto.current ∙ c.loop-slot.invariant.2,
+    ) | else-flags-slot-ne0 w ↦ (
       omega arith,
       value_without c.args.current.now c.args.at c.args.state.now c.args.flags.now c.loop-slot.slot _ c.loop-slot.current
-          c.loop-slot.invariant.1 w.0.left w.1,
-      ap length w.1 ∙ c.loop-slot.invariant.2,
-    ))
-    c.if-flags-slot-ne0.branch
+          c.loop-slot.invariant.1 w.if-flags-slot-ne0.false w.current-is,
+      c.if-flags-slot-ne0.auto.current ∙ c.loop-slot.invariant.2,
+    ) ]
 
 pub shape_of-current : goal.shape_of-current
 shape_of-current c =

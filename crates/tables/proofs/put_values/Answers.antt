@@ -1,7 +1,6 @@
 -- `tables::put_values` meets its contract: the words of i values are there.
 use Prim.Native.Nat.{◌+◌, ◌*◌}
 use mathlib.Core.Path.{◌≡◌, refl, sym, ◌∙◌}
-use mathlib.Core.Logic.{⊎_elim}
 use native.Mathlib.Omega.{arith}
 use lib.ListN.{length, take, get_or}
 use borrow.Author.Rules.{rules}
@@ -10,6 +9,7 @@ use lib.Seq.{length-take-le}
 use Rattle.tables.specs.Layout.{values_row, length_values, values_turn, value-here, value-past, value_words}
 use Rattle.tables.specs.Pastes.{put-none, put-put}
 use Rattle.tables.proofs.put_values.Goals as goal
+use Rattle.tables.proofs.put_values.Goals.{then-i-count, else-i-count}
 
 pub loop-i-init : goal.loop-i-init
 unfolding values_row
@@ -32,15 +32,14 @@ loop-i-smaller c = omega arith
 pub loop-i-preserved : goal.loop-i-preserved
 loop-i-preserved c =
     let e : c.if-i-count.v ≡ get_or (take c.args.count c.args.list) c.loop-i.i nothing =
-    ⊎_elim (λ x. x.2 ∙ sym (value-here c.args.list c.args.count c.loop-i.i x.0.taken))
-    (λ x. x.1 ∙ sym (value-past c.args.list c.args.count c.loop-i.i x.0.left)) c.if-i-count.branch in
+    elim c.if-i-count.branch [ then-i-count w ↦ w.v-is ∙ sym (value-here c.args.list c.args.count c.loop-i.i w.if-i-count.true) | else-i-count w ↦ w.v-is ∙ sym (value-past c.args.list c.args.count c.loop-i.i w.if-i-count.false) ] in
     let m = length_values (take c.args.count c.args.list) c.loop-i.i in
     let b : c.args.place + 3 * c.loop-i.i ≡ c.args.place + length (values_row (take c.args.count c.args.list) c.loop-i.i) = omega arith in (
       omega arith,
       (
         c.put_words.ensures ∙ rw (c.value_words-words.ensures, e, c.loop-i.invariant.1.0, values_turn (take c.args.count c.args.list) c.loop-i.i)
             (put-put c.args.table.now (values_row (take c.args.count c.args.list) c.loop-i.i) (value_words (get_or (take c.args.count c.args.list) c.loop-i.i nothing)) c.args.place (c.args.place + 3 * c.loop-i.i) b (omega (arith, c.requires.0))),
-        c.put_words.auto.0 ∙ c.loop-i.invariant.1.1,
+        c.put_words.auto.table ∙ c.loop-i.invariant.1.1,
       ),
     )
 

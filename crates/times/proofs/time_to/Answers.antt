@@ -14,16 +14,6 @@ use Rattle.times.specs.declared.Plainly.TheVariants as found
 use Rattle.times.specs.Standing.{time_to}
 use Rattle.times.proofs.time_to.Goals as goal
 
-untimed : (e : ℕ) (n : Number) → (tag_of (declared enum) n ≡ 0 → ⊥) → found.Other ≡ time_to e n
-untimed e (number.Time z) k = absurd (k refl)
-untimed e number.Fine k = refl
-untimed e number.Beyond k = refl
-untimed e number.Wrong k = refl
-
-pub returns-in_default : goal.returns-in_default
-returns-in_default c =
-    untimed c.args.end c.args.number (λ z. ⊎_elim (λ k. omega arith) (⊎_elim (λ k. omega arith) (λ k. omega arith)) c.in_default.in_default-own.keys2)
-
 pub returns : goal.returns
 returns c =
     let f : to_z w64 (of_z w64 c.in-Time.femtoseconds) ≡ c.in-Time.femtoseconds = search rules in

@@ -1,12 +1,12 @@
 -- `touching::touch_rows` meets its contract. Invariant: the flags behind the slots so far.
 use mathlib.Core.Path.{◌≡◌, refl, ◌∙◌, ap}
-use mathlib.Core.Logic.{⊎_elim}
 use native.Mathlib.Omega.{arith}
 use lib.ListN.{length, length-set}
 use Rattle.amounts.specs.Amounts.{given}
 use Rattle.patching.specs.Scratch.{touched_flags}
 use Rattle.touching.specs.Turns.{slot_with, slot_without}
 use Rattle.touching.proofs.touch_rows.Goals as goal
+use Rattle.touching.proofs.touch_rows.Goals.{then-rows-slot, else-rows-slot}
 
 pub loop-slot-init : goal.loop-slot-init
 unfolding touched_flags
@@ -19,18 +19,15 @@ bounds-flags-slot c =
 pub loop-slot-preserved : goal.loop-slot-preserved
 unfolding given
 loop-slot-preserved c =
-    ⊎_elim
-    (λ w. (
+    elim c.if-rows-slot.branch [ then-rows-slot w ↦ (
       omega arith,
-      slot_with c.args.flags.now _ c.loop-slot.slot _ c.loop-slot.flags c.loop-slot.invariant.1 w.0.taken w.1,
-      ap length w.1 ∙ length-set c.loop-slot.flags c.loop-slot.slot 1 ∙ c.loop-slot.invariant.2,
-    ))
-    (λ w. (
+      slot_with c.args.flags.now _ c.loop-slot.slot _ c.loop-slot.flags c.loop-slot.invariant.1 w.if-rows-slot.true w.flags-is,
+      c.if-rows-slot.auto.flags ∙ c.loop-slot.invariant.2,
+    ) | else-rows-slot w ↦ (
       omega arith,
-      slot_without c.args.flags.now _ c.loop-slot.slot _ c.loop-slot.flags c.loop-slot.invariant.1 w.0.left w.1,
-      ap length w.1 ∙ c.loop-slot.invariant.2,
-    ))
-    c.if-rows-slot.branch
+      slot_without c.args.flags.now _ c.loop-slot.slot _ c.loop-slot.flags c.loop-slot.invariant.1 w.if-rows-slot.false w.flags-is,
+      c.if-rows-slot.auto.flags ∙ c.loop-slot.invariant.2,
+    ) ]
 
 pub shape_of-flags : goal.shape_of-flags
 shape_of-flags c =

@@ -2,18 +2,15 @@
 use Prim.Native.Nat.{ℕ}
 use mathlib.Core.Path.{◌≡◌, refl, sym, ◌∙◌, subst}
 use mathlib.Core.Bool.{Bool}
-use mathlib.Core.Logic.{⊎_elim}
 use native.Mathlib.Omega.{arith}
 use lib.IntN.{ℤ}
 use mir.Syntax.{w64}
 use mir.Val.{to_z, of_z}
-use denote.Enum.Declared.{tag_of, declared}
 use borrow.Author.Rules.{rules}
 use Rattle.tokens.specs.Stream.{placed}
 use Rattle.numbershape.specs.Value.{number_of}
 use Rattle.numbershape.specs.declared.Number.{Number}
 use Rattle.numbershape.specs.declared.Number.TheVariants as number
-use Rattle.numbershape.specs.contracts.Number.{enum}
 use Rattle.grammar.specs.declared.Here.TheVariants as here
 use Rattle.grammar.specs.Meaning.{wrongly}
 use Rattle.rules.specs.Promises.{NumberHere}
@@ -22,21 +19,17 @@ use Rattle.tokens.specs.Stream.{Placed}
 use Rattle.rules.specs.Promises.{refusal_of}
 use Rattle.values.proofs.number_here.Goals as goal
 
-refused : (t : Placed) (sg : Bool) (unit : ℕ) (o : Bool) (x : Number) (w n : ℕ) → t.kind ≡ 7 → number_of sg unit t.bytes ≡ x → (tag_of (declared enum) x ≡ 0 → ⊥) →
+refused : (t : Placed) (sg : Bool) (unit : ℕ) (o : Bool) (x : Number) (w n : ℕ) → t.kind ≡ 7 → number_of sg unit t.bytes ≡ x → ((z : ℤ) → x ≡ number.Time z → ⊥) →
     w ≡ wrongly o t.kind t.bytes → n ≡ refusal_of x w → NumberHere t sg unit o (here.Refused n t.start)
-refused t sg unit o (number.Time z) w n q e f g h = absurd (f refl)
+refused t sg unit o (number.Time z) w n q e f g h = absurd (f z refl)
 refused t sg unit o number.Fine w n q e f g h = rw h (number_fine t sg unit o q e)
 refused t sg unit o number.Beyond w n q e f g h = rw h (number_beyond t sg unit o q e)
 refused t sg unit o number.Wrong w n q e f g h = rw (h, g) (number-wrong t sg unit o q e)
 
-pub enum_known-n : goal.enum_known-n
-enum_known-n c =
-    c.in-Time.in-Time-own.keys1
-
 pub returns-in_default : goal.returns-in_default
 returns-in_default c =
     refused (placed c.args.text.now c.args.kind c.args.start c.args.end c.args.long) c.args.signed c.args.unit c.args.opened c.read_number-n.result c.wrong_at-wrong.result c.number_refusal.result c.if-kind-eq7.true (sym c.read_number-n.ensures)
-    (λ z. ⊎_elim (λ a. omega arith) (⊎_elim (λ a. omega arith) (λ a. omega arith)) c.in_default.in_default-own.keys2) c.wrong_at-wrong.ensures c.number_refusal.ensures
+    c.in_default.not-Time c.wrong_at-wrong.ensures c.number_refusal.ensures
 
 pub returns-then-long : goal.returns-then-long
 returns-then-long c =

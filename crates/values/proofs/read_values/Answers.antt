@@ -18,14 +18,6 @@ pub read_value-a-requires : goal.read_value-a-requires
 read_value-a-requires c =
     c.requires
 
-pub enum_known-a : goal.enum_known-a
-enum_known-a c =
-    c.in-Refused.in-Refused-own.keys1
-
-pub enum_known-a-in-Value-1 : goal.enum_known-a-in-Value-1
-enum_known-a-in-Value-1 c =
-    c.in-Value.in-Value-own.keys2
-
 pub loop-number-init : goal.loop-number-init
 loop-number-init c =
     let t : ReadsValue c.args.text.now c.args.from true c.args.unit (rv.Value c.in-Value.v c.in-Value.end) = rw c.in-Value.is at c.read_value-a.ensures in
@@ -37,17 +29,9 @@ pub token_from-t-requires : goal.token_from-t-requires
 token_from-t-requires c =
     c.loop-number.invariant.3
 
-pub enum_known-t : goal.enum_known-t
-enum_known-t c =
-    c.in-Stop.in-Stop-own.keys1
-
 pub returns-in-Stop : goal.returns-in-Stop
 returns-in-Stop c =
     (rw c.no_values-in-Stop.ensures.0 (values_stop c.args.text.now c.args.from c.loop-number.p c.args.unit (take c.loop-number.n c.loop-number.list) (take c.no_values-in-Stop.result.count c.no_values-in-Stop.result.list) c.loop-number.n c.in-Stop.number c.in-Stop.place c.loop-number.invariant.4 c.loop-number.invariant.3 (sym c.token_from-t.ensures ∙ c.in-Stop.is)), c.no_values-in-Stop.ensures.1)
-
-pub enum_known-t-in-Got-1 : goal.enum_known-t-in-Got-1
-enum_known-t-in-Got-1 c =
-    c.in-Got.in-Got-own.keys2
 
 pub returns-then-kind-eq3 : goal.returns-then-kind-eq3
 returns-then-kind-eq3 c =
@@ -61,18 +45,10 @@ pub read_value-b-requires : goal.read_value-b-requires
 read_value-b-requires c =
     (ahead c.args.text.now c.loop-number.p c.in-Got.kind c.in-Got.start c.in-Got.end c.in-Got.long c.loop-number.invariant.3 (sym c.token_from-t.ensures ∙ c.in-Got.is)).1
 
-pub enum_known-b : goal.enum_known-b
-enum_known-b c =
-    c.in-Refused-b.in-Refused-b-own.keys1
-
 pub returns-in-Refused-b : goal.returns-in-Refused-b
 returns-in-Refused-b c =
     let u : ReadsValue c.args.text.now c.in-Got.end true c.args.unit (rv.Refused c.in-Refused-b.number c.in-Refused-b.place) = rw c.in-Refused-b.is at c.read_value-b.ensures in
     (rw c.no_values-in-Refused-b.ensures.0 (values_bad c.args.text.now c.loop-number.p c.in-Got.kind c.in-Got.start c.in-Got.end c.in-Got.long c.loop-number.invariant.3 (sym c.token_from-t.ensures ∙ c.in-Got.is) c.args.from c.args.unit (take c.loop-number.n c.loop-number.list) c.loop-number.n c.loop-number.invariant.4 (take c.no_values-in-Refused-b.result.count c.no_values-in-Refused-b.result.list) c.in-Refused-b.number c.in-Refused-b.place c.if-kind-eq2.true c.if-n-ge6.false u), c.no_values-in-Refused-b.ensures.1)
-
-pub enum_known-b-in-Value-b : goal.enum_known-b-in-Value-b
-enum_known-b-in-Value-b c =
-    c.in-Value-b.in-Value-b-own.keys2
 
 pub bounds-list-n : goal.bounds-list-n
 bounds-list-n c = omega arith
