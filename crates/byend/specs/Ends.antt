@@ -95,7 +95,7 @@ below_length (c ∷ r) x e =
 pub front-bucket : (path name x : List ℕ) → x ≡ full path name → bucket_to x (length path) ≡ bucket_of path
 unfolding full bucket_of bucket_to
 front-bucket [] name x e = refl
-front-bucket (c ∷ r) name x e = rw e (bucket-front (c ∷ r) (46 ∷ name))
+front-bucket (c ∷ r) name x e = ap (λ (y : List ℕ). bucket_to y (length (c ∷ r))) e ∙ bucket-front (c ∷ r) (46 ∷ name)
 
 pub one-below-bucket : (path x : List ℕ) → one_below path x ≡ true → below_bucket x ≡ bucket_of path
 unfolding below_bucket one_below same_name same_text

@@ -33,11 +33,10 @@ loop-k-smaller c =
     omega (arith, c.loop-k-test.true)
 
 pub loop-k-preserved : goal.loop-k-preserved
-loop-k-preserved c =
-    (
-      omega (arith, c.loop-k-test.true),
-      elim c.if-entries-k-eq-DEVICE.branch [ then-entries-k-eq-DEVICE w ↦ row_with c.args.entries.now c.loop-k.k _ c.loop-k.some c.loop-k.invariant.1 w.if-entries-k-eq-DEVICE.true w.some-is | else-entries-k-eq-DEVICE w ↦ row_without c.args.entries.now c.loop-k.k _ c.loop-k.some c.loop-k.invariant.1 w.if-entries-k-eq-DEVICE.false w.some-is ],
-    )
+loop-k-preserved c = (
+  omega (arith, c.loop-k-test.true),
+  elim c.if-entries-k-eq-DEVICE.branch [ then-entries-k-eq-DEVICE w ↦ row_with c.args.entries.now c.loop-k.k _ c.loop-k.some c.loop-k.invariant.1 w.if-entries-k-eq-DEVICE.true w.some-is | else-entries-k-eq-DEVICE w ↦ row_without c.args.entries.now c.loop-k.k _ c.loop-k.some c.loop-k.invariant.1 w.if-entries-k-eq-DEVICE.false w.some-is ],
+)
 
 pub returns : goal.returns
 returns c =

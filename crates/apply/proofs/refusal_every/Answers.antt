@@ -32,12 +32,15 @@ loop-k-preserved c =
     c.args.entry c.args.rows c.args.out.now in
     let is = type-is c.args.start.now c.args.celltype.now c.loop-k.k c.loop-k.here _ c.loop-k.invariant.1 c.is_of.ensures in
     let next = instance-more c.args.start.now c.loop-k.k 12 c.loop-k.here _ c.loop-k.invariant.1 c.next_instance-here.ensures in
-    elim c.if-is_of.branch [ then-is_of w ↦ (
-      omega arith,
-      next,
-      least_with test c.loop-k.k refusal _ c.loop-k.least (is ∙ w.if-is_of.true) c.loop-k.invariant.2
-          (w.least-is ∙ w.lesser_of-least.ensures ∙ rw (w.refusal_in.ensures, c.loop-k.invariant.1)),
-    ) | else-is_of w ↦ (omega arith, next, least_without test c.loop-k.k refusal _ (is ∙ w.if-is_of.false) (w.least-is ∙ c.loop-k.invariant.2)) ]
+    elim c.if-is_of.branch [
+      | then-is_of w ↦ (
+        omega arith,
+        next,
+        least_with test c.loop-k.k refusal _ c.loop-k.least (is ∙ w.if-is_of.true) c.loop-k.invariant.2
+            (w.least-is ∙ w.lesser_of-least.ensures ∙ rw (w.refusal_in.ensures, c.loop-k.invariant.1)),
+      )
+      | else-is_of w ↦ (omega arith, next, least_without test c.loop-k.k refusal _ (is ∙ w.if-is_of.false) (w.least-is ∙ c.loop-k.invariant.2))
+    ]
 
 pub returns : goal.returns
 unfolding refusal_every

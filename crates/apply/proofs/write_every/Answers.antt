@@ -1,7 +1,6 @@
 -- `apply::write_every` meets its contract. Invariant: what is made of the sheet in the instances so far that are of the type is written.
-use mathlib.Core.Path.{◌≡◌, refl, ◌∙◌, ap}
+use mathlib.Core.Path.{◌≡◌, refl, ◌∙◌}
 use native.Mathlib.Omega.{arith}
-use lib.ListN.{length}
 use Rattle.sheetlaws.specs.Sheet.{nth}
 use Rattle.applying.specs.Bytes.{written_of, written_every}
 use Rattle.entryarcs.specs.Turns.{written_with, written_without, instance-whole, instance-more, typed, type-is, writes_in}
@@ -33,18 +32,21 @@ loop-k-preserved c =
     c.args.rows in
     let is = type-is c.args.start.now c.args.celltype.now c.loop-k.k c.loop-k.here _ c.loop-k.invariant.1 c.is_of.ensures in
     let next = instance-more c.args.start.now c.loop-k.k 12 c.loop-k.here _ c.loop-k.invariant.1 c.next_instance-here.ensures in
-    elim c.if-is_of.branch [ then-is_of w ↦ (
-      omega arith,
-      next,
-      written_with test c.loop-k.k write c.args.out.now _ c.loop-k.out (is ∙ w.if-is_of.true) c.loop-k.invariant.2
-          (w.out-is ∙ w.write_in.ensures ∙ rw c.loop-k.invariant.1),
-      c.if-is_of.auto.out ∙ c.loop-k.invariant.3,
-    ) | else-is_of w ↦ (
-      omega arith,
-      next,
-      written_without test c.loop-k.k write c.args.out.now _ (is ∙ w.if-is_of.false) (w.out-is ∙ c.loop-k.invariant.2),
-      c.if-is_of.auto.out ∙ c.loop-k.invariant.3,
-    ) ]
+    elim c.if-is_of.branch [
+      | then-is_of w ↦ (
+        omega arith,
+        next,
+        written_with test c.loop-k.k write c.args.out.now _ c.loop-k.out (is ∙ w.if-is_of.true) c.loop-k.invariant.2
+            (w.out-is ∙ w.write_in.ensures ∙ rw c.loop-k.invariant.1),
+        c.if-is_of.auto.out ∙ c.loop-k.invariant.3,
+      )
+      | else-is_of w ↦ (
+        omega arith,
+        next,
+        written_without test c.loop-k.k write c.args.out.now _ (is ∙ w.if-is_of.false) (w.out-is ∙ c.loop-k.invariant.2),
+        c.if-is_of.auto.out ∙ c.loop-k.invariant.3,
+      )
+    ]
 
 pub shape_of-out : goal.shape_of-out
 shape_of-out c =

@@ -10,14 +10,13 @@ use Rattle.applycells.proofs.apply_cells.Goals as goal
 
 pub loop-k-init : goal.loop-k-init
 unfolding entries_before
-loop-k-init c =
-    (
-      omega arith,
-      refl,
-      (λ y g. cells-none c.args.start.now y c.args.plan.instances c.args.plan.arcs c.args.plan.first g c.args.text.now
-          c.args.plan.slash c.args.cells.now c.args.count c.args.entries.now c.args.out.now),
-      refl,
-    )
+loop-k-init c = (
+  omega arith,
+  refl,
+  (λ y g. cells-none c.args.start.now y c.args.plan.instances c.args.plan.arcs c.args.plan.first g c.args.text.now
+      c.args.plan.slash c.args.cells.now c.args.count c.args.entries.now c.args.out.now),
+  refl,
+)
 
 pub overflow_mul-row : goal.overflow_mul-row
 overflow_mul-row c =
@@ -40,14 +39,13 @@ shape_of-out-in-Refused c =
     c.out-1.given ∙ c.loop-k.invariant.3
 
 pub returns-in-Refused : goal.returns-in-Refused
-returns-in-Refused c =
-    (
-      c.out-1.given ∙ c.loop-k.invariant.3,
-      λ y g. cells-stop c.args.start.now y c.args.plan.instances c.args.plan.arcs c.args.plan.first g
-          c.args.text.now c.args.plan.slash c.args.cells.now c.args.count c.args.entries.now c.args.out.now c.loop-k.k c.loop-k.out
-          c.apply_cell-went.new.out c.loop-k.first c.in-Refused.number c.in-Refused.place (omega arith) c.loop-k.invariant.1
-          (c.loop-k.invariant.2 y g) (rw c.in-Refused.is at c.apply_cell-went.ensures.1) y g,
-    )
+returns-in-Refused c = (
+  c.out-1.given ∙ c.loop-k.invariant.3,
+  λ y g. cells-stop c.args.start.now y c.args.plan.instances c.args.plan.arcs c.args.plan.first g
+      c.args.text.now c.args.plan.slash c.args.cells.now c.args.count c.args.entries.now c.args.out.now c.loop-k.k c.loop-k.out
+      c.apply_cell-went.new.out c.loop-k.first c.in-Refused.number c.in-Refused.place (omega arith) c.loop-k.invariant.1
+      (c.loop-k.invariant.2 y g) (rw c.in-Refused.is at c.apply_cell-went.ensures.1) y g,
+)
 
 pub bounds-cells-row : goal.bounds-cells-row
 bounds-cells-row c =
@@ -61,16 +59,15 @@ loop-k-smaller c = omega arith
 
 pub loop-k-preserved : goal.loop-k-preserved
 unfolding entries_before
-loop-k-preserved c =
-    (
-      omega arith,
-      rw add-one (ap (λ (x : ℕ). x + get_or c.args.cells.now (7 * c.loop-k.k + 6) 0) c.loop-k.invariant.1),
-      (λ y g. rw add-one (cells-more c.args.start.now y c.args.plan.instances c.args.plan.arcs c.args.plan.first g c.args.text.now
-          c.args.plan.slash c.args.cells.now c.args.count c.args.entries.now c.args.out.now c.loop-k.k c.loop-k.out
-          c.apply_cell-went.new.out c.loop-k.first (omega arith) c.loop-k.invariant.1 (c.loop-k.invariant.2 y g)
-          (rw c.in-Done.is at c.apply_cell-went.ensures.1))),
-      c.out-1.given ∙ c.loop-k.invariant.3,
-    )
+loop-k-preserved c = (
+  omega arith,
+  rw add-one (ap (λ (x : ℕ). x + get_or c.args.cells.now (7 * c.loop-k.k + 6) 0) c.loop-k.invariant.1),
+  (λ y g. rw add-one (cells-more c.args.start.now y c.args.plan.instances c.args.plan.arcs c.args.plan.first g c.args.text.now
+      c.args.plan.slash c.args.cells.now c.args.count c.args.entries.now c.args.out.now c.loop-k.k c.loop-k.out
+      c.apply_cell-went.new.out c.loop-k.first (omega arith) c.loop-k.invariant.1 (c.loop-k.invariant.2 y g)
+      (rw c.in-Done.is at c.apply_cell-went.ensures.1))),
+  c.out-1.given ∙ c.loop-k.invariant.3,
+)
 
 pub shape_of-out : goal.shape_of-out
 shape_of-out c =

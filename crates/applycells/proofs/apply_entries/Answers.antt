@@ -6,13 +6,12 @@ use Rattle.applycells.specs.EntryLaws.{entries_none, entries_more, entries_stop,
 use Rattle.applycells.proofs.apply_entries.Goals as goal
 
 pub loop-k-init : goal.loop-k-init
-loop-k-init c =
-    (
-      omega arith,
-      (λ y g. entries_none c.args.start.now y c.args.plan.instances c.args.plan.arcs c.args.plan.first g c.args.text.now
-          c.args.plan.slash c.args.entries.now c.args.first c.args.count c.args.whom c.args.celltype.now c.args.out.now),
-      refl,
-    )
+loop-k-init c = (
+  omega arith,
+  (λ y g. entries_none c.args.start.now y c.args.plan.instances c.args.plan.arcs c.args.plan.first g c.args.text.now
+      c.args.plan.slash c.args.entries.now c.args.first c.args.count c.args.whom c.args.celltype.now c.args.out.now),
+  refl,
+)
 
 pub overflow_add-row : goal.overflow_add-row
 overflow_add-row c =
@@ -43,14 +42,13 @@ shape_of-out-then-number-ne0 c =
     c.out-1.given ∙ c.loop-k.invariant.2
 
 pub returns-then-number-ne0 : goal.returns-then-number-ne0
-returns-then-number-ne0 c =
-    (
-      c.out-1.given ∙ c.loop-k.invariant.2,
-      λ y g. entries_stop c.args.start.now y c.args.plan.instances c.args.plan.arcs c.args.plan.first g
-          c.args.text.now c.args.plan.slash c.args.entries.now c.args.first c.args.count c.args.whom c.args.celltype.now c.args.out.now
-          c.loop-k.k c.loop-k.out c.apply_entry-number.new.out c.apply_entry-number.result (omega arith) (c.loop-k.invariant.1 y g)
-          c.apply_entry-number.ensures.0 c.if-number-ne0.true y g,
-    )
+returns-then-number-ne0 c = (
+  c.out-1.given ∙ c.loop-k.invariant.2,
+  λ y g. entries_stop c.args.start.now y c.args.plan.instances c.args.plan.arcs c.args.plan.first g
+      c.args.text.now c.args.plan.slash c.args.entries.now c.args.first c.args.count c.args.whom c.args.celltype.now c.args.out.now
+      c.loop-k.k c.loop-k.out c.apply_entry-number.new.out c.apply_entry-number.result (omega arith) (c.loop-k.invariant.1 y g)
+      c.apply_entry-number.ensures.0 c.if-number-ne0.true y g,
+)
 
 pub overflow_add-k : goal.overflow_add-k
 overflow_add-k c = omega arith
@@ -59,15 +57,14 @@ pub loop-k-smaller : goal.loop-k-smaller
 loop-k-smaller c = omega arith
 
 pub loop-k-preserved : goal.loop-k-preserved
-loop-k-preserved c =
-    (
-      omega arith,
-      (λ y g. rw add-one (entries_more c.args.start.now y c.args.plan.instances c.args.plan.arcs c.args.plan.first g
-          c.args.text.now c.args.plan.slash c.args.entries.now c.args.first c.args.count c.args.whom c.args.celltype.now c.args.out.now
-          c.loop-k.k c.loop-k.out c.apply_entry-number.new.out (omega arith) (c.loop-k.invariant.1 y g)
-          (sym c.apply_entry-number.ensures.0 ∙ c.if-number-ne0.false) c.apply_entry-number.ensures.1)),
-      c.out-1.given ∙ c.loop-k.invariant.2,
-    )
+loop-k-preserved c = (
+  omega arith,
+  (λ y g. rw add-one (entries_more c.args.start.now y c.args.plan.instances c.args.plan.arcs c.args.plan.first g
+      c.args.text.now c.args.plan.slash c.args.entries.now c.args.first c.args.count c.args.whom c.args.celltype.now c.args.out.now
+      c.loop-k.k c.loop-k.out c.apply_entry-number.new.out (omega arith) (c.loop-k.invariant.1 y g)
+      (sym c.apply_entry-number.ensures.0 ∙ c.if-number-ne0.false) c.apply_entry-number.ensures.1)),
+  c.out-1.given ∙ c.loop-k.invariant.2,
+)
 
 pub shape_of-out : goal.shape_of-out
 shape_of-out c =

@@ -23,8 +23,7 @@ write_arc-requires c =
 pub returns-then-number-eq0 : goal.returns-then-number-eq0
 unfolding entry_number entry_state rows_at
 returns-then-number-eq0 c =
-    let m = sym c.is_meant.ensures ∙ c.if-not-is_meant.false in
-    (
+    let m = sym c.is_meant.ensures ∙ c.if-not-is_meant.false in (
       rw (← c.head_at-entry.ensures, m, ← c.expand.ensures, ← c.mask-rows.ensures) c.arc_refusal-number.ensures,
       rw (← c.head_at-entry.ensures, m, ← c.expand.ensures, ← c.mask-rows.ensures, ← c.arc_refusal-number.ensures, eq-eqb c.arc_refusal-number.result 0 (omega (arith, c.if-number-eq0.true)))
           c.write_arc.ensures,
@@ -33,8 +32,7 @@ returns-then-number-eq0 c =
 pub returns-else-number-eq0 : goal.returns-else-number-eq0
 unfolding entry_number entry_state rows_at
 returns-else-number-eq0 c =
-    let m = sym c.is_meant.ensures ∙ c.if-not-is_meant.false in
-    (
+    let m = sym c.is_meant.ensures ∙ c.if-not-is_meant.false in (
       rw (← c.head_at-entry.ensures, m, ← c.expand.ensures, ← c.mask-rows.ensures) c.arc_refusal-number.ensures,
       rw (← c.head_at-entry.ensures, m, ← c.expand.ensures, ← c.mask-rows.ensures, ← c.arc_refusal-number.ensures, ne_eqb _ 0 c.if-number-eq0.false),
     )

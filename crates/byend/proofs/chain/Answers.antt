@@ -21,8 +21,7 @@ pub loop-k-preserved : goal.loop-k-preserved
 loop-k-preserved c =
     let e = c.widen-here.ensures ∙ c.loop-k.invariant.2 (c.loop-k.k - 1) (omega arith) in
     let s : c.loop-k.k ≡ suc (c.loop-k.k - 1) = omega arith in
-    let long : end_place (c.loop-k.k - 1) < length c.loop-k.ends = omega arith in
-    (
+    let long : end_place (c.loop-k.k - 1) < length c.loop-k.ends = omega arith in (
       omega arith,
       chained_more end_place (end_bucket c.args.sheet.now c.args.first) c.args.count ends_far ends_apart (c.loop-k.k - 1) c.loop-k.ends c.below_bucket-bucket.result c.below_bucket-bucket.ensures.1 long
           (rw s at c.loop-k.invariant.1) (omega arith) (c.below_bucket-bucket.ensures.0 ∙ ap below_bucket (c.second_end.ensures ∙ rw e refl)),

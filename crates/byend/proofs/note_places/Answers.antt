@@ -26,14 +26,13 @@ next_arc-here-requires c =
     rw c.loop-k.invariant.1 (arc_there c.args.sheet.now c.loop-k.k c.args.count c.args.first (search rules) c.requires.0).1
 
 pub loop-k-preserved : goal.loop-k-preserved
-loop-k-preserved c =
-    (
-      omega arith,
-      c.next_arc-here.ensures ∙ rw c.loop-k.invariant.1 (sym (nth-next (ar_next c.args.sheet.now) c.loop-k.k c.args.first)),
-      noted_more end_place (λ i. place c.args.sheet.now i c.args.first) ends_apart c.loop-k.k c.loop-k.ends c.loop-k.here (omega arith) c.loop-k.invariant.1 c.loop-k.invariant.2,
-      (λ h g. get_or-set_other c.loop-k.ends (4096 + c.loop-k.k) h c.loop-k.here 0 (λ e. omega arith) ∙ c.loop-k.invariant.3 h g),
-      simp length-set c.loop-k.invariant.4,
-    )
+loop-k-preserved c = (
+  omega arith,
+  c.next_arc-here.ensures ∙ rw c.loop-k.invariant.1 (sym (nth-next (ar_next c.args.sheet.now) c.loop-k.k c.args.first)),
+  noted_more end_place (λ i. place c.args.sheet.now i c.args.first) ends_apart c.loop-k.k c.loop-k.ends c.loop-k.here (omega arith) c.loop-k.invariant.1 c.loop-k.invariant.2,
+  (λ h g. get_or-set_other c.loop-k.ends (4096 + c.loop-k.k) h c.loop-k.here 0 (λ e. omega arith) ∙ c.loop-k.invariant.3 h g),
+  simp length-set c.loop-k.invariant.4,
+)
 
 pub returns : goal.returns
 returns c =

@@ -26,14 +26,13 @@ next_instance-here-requires c =
     rw c.loop-k.invariant.1 (in_there c.args.sheet.now c.loop-k.k c.args.count 12 (search rules) c.requires.0).1
 
 pub loop-k-preserved : goal.loop-k-preserved
-loop-k-preserved c =
-    (
-      omega arith,
-      c.next_instance-here.ensures ∙ rw c.loop-k.invariant.1 (sym (nth-next (in_end c.args.sheet.now) c.loop-k.k 12)),
-      noted_more spot_place (spot_of c.args.sheet.now) spots_apart c.loop-k.k c.loop-k.index c.loop-k.here (omega arith) c.loop-k.invariant.1 c.loop-k.invariant.2,
-      (λ h g. get_or-set_other c.loop-k.index (4097 + 2 * c.loop-k.k) h c.loop-k.here 0 (λ e. omega arith) ∙ c.loop-k.invariant.3 h g),
-      simp length-set c.loop-k.invariant.4,
-    )
+loop-k-preserved c = (
+  omega arith,
+  c.next_instance-here.ensures ∙ rw c.loop-k.invariant.1 (sym (nth-next (in_end c.args.sheet.now) c.loop-k.k 12)),
+  noted_more spot_place (spot_of c.args.sheet.now) spots_apart c.loop-k.k c.loop-k.index c.loop-k.here (omega arith) c.loop-k.invariant.1 c.loop-k.invariant.2,
+  (λ h g. get_or-set_other c.loop-k.index (4097 + 2 * c.loop-k.k) h c.loop-k.here 0 (λ e. omega arith) ∙ c.loop-k.invariant.3 h g),
+  simp length-set c.loop-k.invariant.4,
+)
 
 pub returns : goal.returns
 returns c =

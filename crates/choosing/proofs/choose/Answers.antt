@@ -1,8 +1,7 @@
 -- `choosing::choose` meets its contract. Invariant: the marked ones of the arcs so far have the first seats.
 use Prim.Native.Nat.{suc}
-use mathlib.Core.Path.{◌≡◌, sym, ◌∙◌, ap}
+use mathlib.Core.Path.{◌≡◌, sym, ◌∙◌}
 use native.Mathlib.Omega.{arith}
-use lib.ListN.{length}
 use Rattle.entryarcs.specs.Turns.{arc-whole, arc-more}
 use Rattle.marking.specs.Laws.{set_long, chosen-start, choose_one, choose-none, chosen-full}
 use Rattle.choosing.proofs.choose.Goals as goal
@@ -38,27 +37,30 @@ next_arc-here-requires c = arc-whole c.args.start.now c.loop-next.next c.args.pl
 pub loop-next-preserved : goal.loop-next-preserved
 loop-next-preserved c =
     let more = arc-more c.args.start.now c.loop-next.next c.args.plan.first c.loop-next.here _ c.loop-next.invariant.1 c.next_arc-here.ensures in
-    elim c.if-is_marked.branch [ then-is_marked w ↦ (
-      omega arith,
-      more,
-      set_long c.loop-next.arcs _ c.loop-next.count c.loop-next.here w.arcs-is ∙ c.loop-next.invariant.2,
-      (
-        suc c.loop-next.invariant.3.0,
-        omega (arith, c.loop-next.invariant.3.1),
-        rw w.count-is (choose_one c.args.start.now c.args.plan.first c.args.bits.now c.args.from c.loop-next.invariant.3.0 c.loop-next.next c.loop-next.here c.loop-next.count c.loop-next.arcs _ c.loop-next.invariant.3.1 c.loop-next.invariant.1
-            (sym c.is_marked.ensures ∙ w.if-is_marked.true) c.loop-next.invariant.2 (omega (arith, c.loop-next.invariant.3.2.1, c.if-count-eq-SEATS.false)) w.arcs-is c.loop-next.invariant.3.2),
-      ),
-    ) | else-is_marked w ↦ (
-      omega arith,
-      more,
-      c.if-is_marked.auto.arcs ∙ c.loop-next.invariant.2,
-      (
-        suc c.loop-next.invariant.3.0,
-        omega (arith, c.loop-next.invariant.3.1),
-        rw w.count-is (choose-none c.args.start.now c.args.plan.first c.args.bits.now c.args.from c.loop-next.invariant.3.0 c.loop-next.next c.loop-next.here c.loop-next.count c.loop-next.arcs _ c.loop-next.invariant.3.1 c.loop-next.invariant.1
-            (sym c.is_marked.ensures ∙ w.if-is_marked.false) w.arcs-is c.loop-next.invariant.3.2),
-      ),
-    ) ]
+    elim c.if-is_marked.branch [
+      | then-is_marked w ↦ (
+        omega arith,
+        more,
+        set_long c.loop-next.arcs _ c.loop-next.count c.loop-next.here w.arcs-is ∙ c.loop-next.invariant.2,
+        (
+          suc c.loop-next.invariant.3.0,
+          omega (arith, c.loop-next.invariant.3.1),
+          rw w.count-is (choose_one c.args.start.now c.args.plan.first c.args.bits.now c.args.from c.loop-next.invariant.3.0 c.loop-next.next c.loop-next.here c.loop-next.count c.loop-next.arcs _ c.loop-next.invariant.3.1 c.loop-next.invariant.1
+              (sym c.is_marked.ensures ∙ w.if-is_marked.true) c.loop-next.invariant.2 (omega (arith, c.loop-next.invariant.3.2.1, c.if-count-eq-SEATS.false)) w.arcs-is c.loop-next.invariant.3.2),
+        ),
+      )
+      | else-is_marked w ↦ (
+        omega arith,
+        more,
+        c.if-is_marked.auto.arcs ∙ c.loop-next.invariant.2,
+        (
+          suc c.loop-next.invariant.3.0,
+          omega (arith, c.loop-next.invariant.3.1),
+          rw w.count-is (choose-none c.args.start.now c.args.plan.first c.args.bits.now c.args.from c.loop-next.invariant.3.0 c.loop-next.next c.loop-next.here c.loop-next.count c.loop-next.arcs _ c.loop-next.invariant.3.1 c.loop-next.invariant.1
+              (sym c.is_marked.ensures ∙ w.if-is_marked.false) w.arcs-is c.loop-next.invariant.3.2),
+        ),
+      )
+    ]
 
 pub shape_of-arcs : goal.shape_of-arcs
 shape_of-arcs c = c.loop-next.invariant.2 ∙ sym c.requires.4

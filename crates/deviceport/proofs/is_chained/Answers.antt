@@ -1,6 +1,6 @@
 -- `deviceport::is_chained` meets its contract.
 use native.Mathlib.Omega.{arith}
-use mathlib.Core.Path.{sym, ◌∙◌}
+use mathlib.Core.Path.{◌≡◌, sym, ◌∙◌}
 use Prim.Native.Nat.{ℕ}
 use Rattle.deviceport.proofs.is_chained.Goals as goal
 

@@ -78,15 +78,18 @@ loop-k-preserved c =
     let on = (chain_next end_place (end_bucket c.args.start.now c.args.plan.first) c.args.plan.arcs c.args.ends.now c.requires.3 (bucket_of (path_at c.args.start.now c.args.instance)) c.loop-k.k _ low c.loop-k.invariant.0 c.widen-k-in-loop-k.ensures).0 in
     let some-skip = skip_next end_place (end_bucket c.args.start.now c.args.plan.first) c.args.plan.arcs c.args.ends.now c.requires.3 (bucket_of (path_at c.args.start.now c.args.instance)) test other (some_of test) (some_same test) c.loop-k.k _ low c.loop-k.invariant.0 c.widen-k-in-loop-k.ensures in
     let skip = skip_next end_place (end_bucket c.args.start.now c.args.plan.first) c.args.plan.arcs c.args.ends.now c.requires.3 (bucket_of (path_at c.args.start.now c.args.instance)) test other (least_of test refusal) (least-same test refusal) c.loop-k.k _ low c.loop-k.invariant.0 c.widen-k-in-loop-k.ensures in
-    elim c.if-device_hit.branch [ then-device_hit w ↦ (
-      on,
-      w.some-is ∙ some_with test c.loop-k.k (hit ∙ w.if-device_hit.true) ∙ sym some-skip,
-      least_with test c.loop-k.k refusal _ c.loop-k.least (hit ∙ w.if-device_hit.true) c.loop-k.invariant.2 (w.least-is ∙ w.lesser_of-least.ensures ∙ rw (w.arc_refusal.ensures, w.values_place-values.ensures, c.arc_place-here.ensures)) ∙ sym skip,
-    ) | else-device_hit w ↦ (
-      on,
-      some_without test c.loop-k.k _ (hit ∙ w.if-device_hit.false) (w.some-is ∙ c.loop-k.invariant.1) ∙ sym some-skip,
-      least_without test c.loop-k.k refusal _ (hit ∙ w.if-device_hit.false) (w.least-is ∙ c.loop-k.invariant.2) ∙ sym skip,
-    ) ]
+    elim c.if-device_hit.branch [
+      | then-device_hit w ↦ (
+        on,
+        w.some-is ∙ some_with test c.loop-k.k (hit ∙ w.if-device_hit.true) ∙ sym some-skip,
+        least_with test c.loop-k.k refusal _ c.loop-k.least (hit ∙ w.if-device_hit.true) c.loop-k.invariant.2 (w.least-is ∙ w.lesser_of-least.ensures ∙ rw (w.arc_refusal.ensures, w.values_place-values.ensures, c.arc_place-here.ensures)) ∙ sym skip,
+      )
+      | else-device_hit w ↦ (
+        on,
+        some_without test c.loop-k.k _ (hit ∙ w.if-device_hit.false) (w.some-is ∙ c.loop-k.invariant.1) ∙ sym some-skip,
+        least_without test c.loop-k.k refusal _ (hit ∙ w.if-device_hit.false) (w.least-is ∙ c.loop-k.invariant.2) ∙ sym skip,
+      )
+    ]
 
 pub returns-then-some : goal.returns-then-some
 unfolding device_refusal

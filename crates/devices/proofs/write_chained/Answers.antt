@@ -7,7 +7,6 @@ use Rattle.bytype.specs.Chains.{chain_head, chain_next, skip_head, skip_next}
 use Rattle.bytype.specs.ByType.{bucket_of}
 use Rattle.sheet.specs.Find.{arc_there}
 use Rattle.sheetparts.specs.Form.{path_at}
-use lib.ListN.{length}
 use native.Mathlib.Omega.{arith}
 use mathlib.Core.Path.{◌≡◌, refl, sym, ◌∙◌, ap}
 use Prim.Native.Nat.{◌<◌}

@@ -12,11 +12,10 @@ unfolding nth some_of least_of
 loop-k-init c = (omega arith, refl, refl, refl)
 
 pub device_hit-requires : goal.device_hit-requires
-device_hit-requires c =
-    (
-      c.requires.there,
-      arc-whole c.args.start.now c.loop-k.k c.args.plan.first c.loop-k.here c.args.plan.arcs c.requires.arcs (omega arith) c.loop-k.invariant.1,
-    )
+device_hit-requires c = (
+  c.requires.there,
+  arc-whole c.args.start.now c.loop-k.k c.args.plan.first c.loop-k.here c.args.plan.arcs c.requires.arcs (omega arith) c.loop-k.invariant.1,
+)
 
 pub values_place-values-requires : goal.values_place-values-requires
 values_place-values-requires c =
@@ -39,18 +38,21 @@ loop-k-preserved c =
     let hit = hit-is c.args.start.now c.args.text.now c.args.plan.slash c.args.plan.first c.args.entry c.args.instance c.loop-k.k c.loop-k.here _ c.loop-k.invariant.1
     c.device_hit.ensures in
     let next = arc-more c.args.start.now c.loop-k.k c.args.plan.first c.loop-k.here _ c.loop-k.invariant.1 c.next_arc-here.ensures in
-    elim c.if-device_hit.branch [ then-device_hit w ↦ (
-      omega arith,
-      next,
-      w.some-is ∙ some_with test c.loop-k.k (hit ∙ w.if-device_hit.true),
-      least_with test c.loop-k.k refusal _ c.loop-k.least (hit ∙ w.if-device_hit.true) c.loop-k.invariant.3
-          (w.least-is ∙ w.lesser_of-least.ensures ∙ rw (w.arc_refusal.ensures, w.values_place-values.ensures, c.loop-k.invariant.1)),
-    ) | else-device_hit w ↦ (
-      omega arith,
-      next,
-      some_without test c.loop-k.k _ (hit ∙ w.if-device_hit.false) (w.some-is ∙ c.loop-k.invariant.2),
-      least_without test c.loop-k.k refusal _ (hit ∙ w.if-device_hit.false) (w.least-is ∙ c.loop-k.invariant.3),
-    ) ]
+    elim c.if-device_hit.branch [
+      | then-device_hit w ↦ (
+        omega arith,
+        next,
+        w.some-is ∙ some_with test c.loop-k.k (hit ∙ w.if-device_hit.true),
+        least_with test c.loop-k.k refusal _ c.loop-k.least (hit ∙ w.if-device_hit.true) c.loop-k.invariant.3
+            (w.least-is ∙ w.lesser_of-least.ensures ∙ rw (w.arc_refusal.ensures, w.values_place-values.ensures, c.loop-k.invariant.1)),
+      )
+      | else-device_hit w ↦ (
+        omega arith,
+        next,
+        some_without test c.loop-k.k _ (hit ∙ w.if-device_hit.false) (w.some-is ∙ c.loop-k.invariant.2),
+        least_without test c.loop-k.k refusal _ (hit ∙ w.if-device_hit.false) (w.least-is ∙ c.loop-k.invariant.3),
+      )
+    ]
 
 pub returns-then-some : goal.returns-then-some
 unfolding device_refusal

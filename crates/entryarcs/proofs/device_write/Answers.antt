@@ -1,7 +1,6 @@
 -- `entryarcs::device_write` meets its contract. Invariant: what the arcs so far that are meant make of the sheet is written.
-use mathlib.Core.Path.{◌≡◌, refl, ◌∙◌, ap}
+use mathlib.Core.Path.{◌≡◌, refl, ◌∙◌}
 use native.Mathlib.Omega.{arith}
-use lib.ListN.{length}
 use Rattle.sheetlaws.specs.Sheet.{nth}
 use Rattle.applying.specs.Bytes.{written_of, device_written}
 use Rattle.entryarcs.specs.Turns.{written_with, written_without, arc-whole, arc-more, hits, writes, hit-is}
@@ -13,11 +12,10 @@ unfolding nth written_of
 loop-k-init c = (omega arith, refl, refl, refl)
 
 pub device_hit-requires : goal.device_hit-requires
-device_hit-requires c =
-    (
-      c.requires.there,
-      arc-whole c.args.start.now c.loop-k.k c.args.plan.first c.loop-k.here c.args.plan.arcs c.requires.arcs (omega arith) c.loop-k.invariant.1,
-    )
+device_hit-requires c = (
+  c.requires.there,
+  arc-whole c.args.start.now c.loop-k.k c.args.plan.first c.loop-k.here c.args.plan.arcs c.requires.arcs (omega arith) c.loop-k.invariant.1,
+)
 
 pub values_place-values-requires : goal.values_place-values-requires
 values_place-values-requires c =
@@ -40,18 +38,21 @@ loop-k-preserved c =
     let hit = hit-is c.args.start.now c.args.text.now c.args.plan.slash c.args.plan.first c.args.entry c.args.instance c.loop-k.k c.loop-k.here _ c.loop-k.invariant.1
     c.device_hit.ensures in
     let next = arc-more c.args.start.now c.loop-k.k c.args.plan.first c.loop-k.here _ c.loop-k.invariant.1 c.next_arc-here.ensures in
-    elim c.if-device_hit.branch [ then-device_hit w ↦ (
-      omega arith,
-      next,
-      written_with test c.loop-k.k write c.args.out.now _ c.loop-k.out (hit ∙ w.if-device_hit.true) c.loop-k.invariant.2
-          (w.out-is ∙ w.write_arc.ensures ∙ rw (w.values_place-values.ensures, c.loop-k.invariant.1)),
-      c.if-device_hit.auto.out ∙ c.loop-k.invariant.3,
-    ) | else-device_hit w ↦ (
-      omega arith,
-      next,
-      written_without test c.loop-k.k write c.args.out.now _ (hit ∙ w.if-device_hit.false) (w.out-is ∙ c.loop-k.invariant.2),
-      c.if-device_hit.auto.out ∙ c.loop-k.invariant.3,
-    ) ]
+    elim c.if-device_hit.branch [
+      | then-device_hit w ↦ (
+        omega arith,
+        next,
+        written_with test c.loop-k.k write c.args.out.now _ c.loop-k.out (hit ∙ w.if-device_hit.true) c.loop-k.invariant.2
+            (w.out-is ∙ w.write_arc.ensures ∙ rw (w.values_place-values.ensures, c.loop-k.invariant.1)),
+        c.if-device_hit.auto.out ∙ c.loop-k.invariant.3,
+      )
+      | else-device_hit w ↦ (
+        omega arith,
+        next,
+        written_without test c.loop-k.k write c.args.out.now _ (hit ∙ w.if-device_hit.false) (w.out-is ∙ c.loop-k.invariant.2),
+        c.if-device_hit.auto.out ∙ c.loop-k.invariant.3,
+      )
+    ]
 
 pub shape_of-out : goal.shape_of-out
 shape_of-out c =

@@ -1,7 +1,6 @@
 -- `entryseats::run_all` meets its contract. Invariant: the first i seats were run, with the least number.
-use mathlib.Core.Path.{◌≡◌, refl, sym, ◌∙◌, ap}
+use mathlib.Core.Path.{◌≡◌, refl, sym, ◌∙◌}
 use native.Mathlib.Omega.{arith}
-use lib.ListN.{length}
 use Rattle.classes.specs.Choice.{pick}
 use Rattle.nearby.specs.Laws.{seats_none, seats_more, seats_pass, seats_end}
 use Rattle.entryseats.proofs.run_all.Goals as goal

@@ -1,9 +1,8 @@
 -- `entryseats::run_entries` meets its contract. Invariant: the seats were run through the first k entries.
 use Prim.Native.Nat.{◌+◌, ◌*◌}
-use mathlib.Core.Path.{◌≡◌, refl, ◌∙◌, ap}
+use mathlib.Core.Path.{◌≡◌, refl, ◌∙◌}
 use native.Mathlib.Omega.{arith}
 use native.Mathlib.Numerals.{add-one}
-use lib.ListN.{length}
 use Rattle.classes.specs.Choice.{pick}
 use Rattle.findseat.specs.Laws.{order_there}
 use Rattle.nearby.specs.Laws.{seats_unwanted, entries_none, entries_more, entries_stop, entries_end}

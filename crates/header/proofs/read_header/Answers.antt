@@ -46,12 +46,11 @@ pass_scale-scaled-requires c =
     (c.pass_bare-temperature.ensures []).1
 
 pub returns : goal.returns
-returns c =
-    (
-      header_read c.args.text.now _ _ _ _ _ _ _ _ c.open_file-opened.result c.pass_text-design.result c.pass_text-date.result c.pass_text-vendor.result c.pass_text-program.result c.pass_text-version.result
-          c.pass_divider-divided.result.hand c.pass_bare-voltage.result c.pass_text-process.result c.pass_bare-temperature.result
-          (record { hand = c.pass_scale-scaled.result.hand; slash = c.pass_divider-divided.result.slash; unit = c.pass_scale-scaled.result.unit })
-          c.open_file-opened.ensures c.pass_text-design.ensures c.pass_text-date.ensures c.pass_text-vendor.ensures c.pass_text-program.ensures c.pass_text-version.ensures
-          c.pass_divider-divided.ensures c.pass_bare-voltage.ensures c.pass_text-process.ensures c.pass_bare-temperature.ensures c.pass_scale-scaled.ensures.0,
-      c.pass_scale-scaled.ensures.1,
-    )
+returns c = (
+  header_read c.args.text.now _ _ _ _ _ _ _ _ c.open_file-opened.result c.pass_text-design.result c.pass_text-date.result c.pass_text-vendor.result c.pass_text-program.result c.pass_text-version.result
+      c.pass_divider-divided.result.hand c.pass_bare-voltage.result c.pass_text-process.result c.pass_bare-temperature.result
+      (record { hand = c.pass_scale-scaled.result.hand; slash = c.pass_divider-divided.result.slash; unit = c.pass_scale-scaled.result.unit })
+      c.open_file-opened.ensures c.pass_text-design.ensures c.pass_text-date.ensures c.pass_text-vendor.ensures c.pass_text-program.ensures c.pass_text-version.ensures
+      c.pass_divider-divided.ensures c.pass_bare-voltage.ensures c.pass_text-process.ensures c.pass_bare-temperature.ensures c.pass_scale-scaled.ensures.0,
+  c.pass_scale-scaled.ensures.1,
+)

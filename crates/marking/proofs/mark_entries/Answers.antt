@@ -30,14 +30,13 @@ pub mark_entry-requires : goal.mark_entry-requires
 mark_entry-requires c = (c.requires.0, c.requires.1, c.requires.2, c.loop-k.invariant.1)
 
 pub loop-k-preserved : goal.loop-k-preserved
-loop-k-preserved c =
-    (
-      omega arith,
-      c.mark_entry.ensures.0,
-      λ q t. c.mark_entry.ensures.1 q (c.loop-k.invariant.2 q t),
-      entry_more c.args.start.now (pick c.args.side c.args.incoming.now c.args.file.now) c.args.plan.slash c.args.plan.instances c.args.plan.arcs c.args.plan.first
-          c.args.entries.now c.args.first c.args.whom c.args.celltype.now c.loop-k.k c.loop-k.bits _ c.mark_entry.ensures.1 (rw c.head_at-entry.ensures at c.mark_entry.ensures.2) c.loop-k.invariant.3,
-    )
+loop-k-preserved c = (
+  omega arith,
+  c.mark_entry.ensures.0,
+  λ q t. c.mark_entry.ensures.1 q (c.loop-k.invariant.2 q t),
+  entry_more c.args.start.now (pick c.args.side c.args.incoming.now c.args.file.now) c.args.plan.slash c.args.plan.instances c.args.plan.arcs c.args.plan.first
+      c.args.entries.now c.args.first c.args.whom c.args.celltype.now c.loop-k.k c.loop-k.bits _ c.mark_entry.ensures.1 (rw c.head_at-entry.ensures at c.mark_entry.ensures.2) c.loop-k.invariant.3,
+)
 
 pub shape_of-bits : goal.shape_of-bits
 shape_of-bits c = c.loop-k.invariant.1 ∙ sym c.requires.4

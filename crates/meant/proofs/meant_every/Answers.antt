@@ -1,6 +1,5 @@
 -- `meant::meant_every` meets its contract.
 use mathlib.Core.Path.{sym, ◌∙◌}
-use borrow.Author.Tests.{not-true, not-false}
 use Rattle.classes.specs.Choice.{pick}
 use Rattle.names.specs.Name.{name_of_it, dotted}
 use Rattle.meaning.specs.Whom.{in_sheet}

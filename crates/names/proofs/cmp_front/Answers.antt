@@ -26,16 +26,15 @@ returns-then-d-c c =
     )) ∙ c.loop-i.invariant.2
 
 pub loop-i-preserved : goal.loop-i-preserved
-loop-i-preserved c =
-    (
-      omega arith,
-      omega arith,
-      sym (front_turn c.args.x.now c.args.y.now c.loop-i.i (search rules) (search rules) ∙ rw (
-        le-ltb _ _
-            c.if-c-d.false,
-        le-ltb _ _ c.if-d-c.false,
-      )) ∙ c.loop-i.invariant.2,
-    )
+loop-i-preserved c = (
+  omega arith,
+  omega arith,
+  sym (front_turn c.args.x.now c.args.y.now c.loop-i.i (search rules) (search rules) ∙ rw (
+    le-ltb _ _
+        c.if-c-d.false,
+    le-ltb _ _ c.if-d-c.false,
+  )) ∙ c.loop-i.invariant.2,
+)
 
 pub returns : goal.returns
 returns c =

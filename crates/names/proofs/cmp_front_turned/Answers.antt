@@ -25,19 +25,18 @@ returns-then-d-c c =
     ∙ rw (← c.turn-d.ensures, le-ltb _ _ c.if-c-d.false, lt-ltb _ _ c.if-d-c.true)) ∙ c.loop-i.invariant.2
 
 pub loop-i-preserved : goal.loop-i-preserved
-loop-i-preserved c =
-    (
-      omega arith,
-      omega arith,
-      sym (written_turn c.args.x.now c.args.name.now c.args.slash c.loop-i.escaped c.loop-i.i (search rules) (search rules)
-          ∙ rw (
-            ← c.turn-d.ensures,
-            ← c.escape-escaped.ensures,
-            le-ltb _ _ c.if-c-d.false,
-            le-ltb _ _
-                c.if-d-c.false,
-          )) ∙ c.loop-i.invariant.2,
-    )
+loop-i-preserved c = (
+  omega arith,
+  omega arith,
+  sym (written_turn c.args.x.now c.args.name.now c.args.slash c.loop-i.escaped c.loop-i.i (search rules) (search rules)
+      ∙ rw (
+        ← c.turn-d.ensures,
+        ← c.escape-escaped.ensures,
+        le-ltb _ _ c.if-c-d.false,
+        le-ltb _ _
+            c.if-d-c.false,
+      )) ∙ c.loop-i.invariant.2,
+)
 
 pub returns : goal.returns
 returns c =

@@ -26,16 +26,15 @@ returns-then-d-c c =
     )) ∙ c.loop-i.invariant.2
 
 pub loop-i-preserved : goal.loop-i-preserved
-loop-i-preserved c =
-    (
-      omega arith,
-      omega arith,
-      sym (cmp_turn c.args.x.now c.args.y.now c.loop-i.i (search rules) (search rules) ∙ rw (
-        le-ltb _ _
-            c.if-c-d.false,
-        le-ltb _ _ c.if-d-c.false,
-      )) ∙ c.loop-i.invariant.2,
-    )
+loop-i-preserved c = (
+  omega arith,
+  omega arith,
+  sym (cmp_turn c.args.x.now c.args.y.now c.loop-i.i (search rules) (search rules) ∙ rw (
+    le-ltb _ _
+        c.if-c-d.false,
+    le-ltb _ _ c.if-d-c.false,
+  )) ∙ c.loop-i.invariant.2,
+)
 
 pub returns-then-i-y : goal.returns-then-i-y
 returns-then-i-y c =

@@ -9,12 +9,11 @@ unfolding last_start
 loop-i-init c = (search rules, search rules, refl)
 
 pub loop-i-preserved : goal.loop-i-preserved
-loop-i-preserved c =
-    (
-      search rules,
-      start_le c.loop-i.escaped c.loop-i.start c.loop-i.i _ _ c.start_behind-start.ensures c.loop-i.invariant.1,
-      sym (start_turn c.args.name.now c.loop-i.escaped c.loop-i.start c.loop-i.i (search rules) ∙ rw (← c.start_behind-start.ensures, ← c.escape-escaped.ensures)) ∙ c.loop-i.invariant.2,
-    )
+loop-i-preserved c = (
+  search rules,
+  start_le c.loop-i.escaped c.loop-i.start c.loop-i.i _ _ c.start_behind-start.ensures c.loop-i.invariant.1,
+  sym (start_turn c.args.name.now c.loop-i.escaped c.loop-i.start c.loop-i.i (search rules) ∙ rw (← c.start_behind-start.ensures, ← c.escape-escaped.ensures)) ∙ c.loop-i.invariant.2,
+)
 
 pub returns : goal.returns
 returns c =

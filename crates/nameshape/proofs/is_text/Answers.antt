@@ -1,5 +1,4 @@
 -- `nameshape::is_text` meets its contract.
-use borrow.Author.Tests.{not-true, not-false}
 use Rattle.nameshape.specs.Shape.{is_text, text_turn, text_end}
 use borrow.Author.Rules.{rules}
 use mathlib.Core.Path.{refl, sym, ◌∙◌}
@@ -17,15 +16,14 @@ returns-then-not-may_follow c =
     )) ∙ c.loop-i.invariant.1
 
 pub loop-i-preserved : goal.loop-i-preserved
-loop-i-preserved c =
-    (
-      search rules,
-      sym (text_turn c.args.text.now c.loop-i.escaped c.loop-i.i (search rules) ∙ rw (
-        ← c.may_follow.ensures,
-        c.if-not-may_follow.false,
-        ← c.escape-escaped.ensures,
-      )) ∙ c.loop-i.invariant.1,
-    )
+loop-i-preserved c = (
+  search rules,
+  sym (text_turn c.args.text.now c.loop-i.escaped c.loop-i.i (search rules) ∙ rw (
+    ← c.may_follow.ensures,
+    c.if-not-may_follow.false,
+    ← c.escape-escaped.ensures,
+  )) ∙ c.loop-i.invariant.1,
+)
 
 pub returns : goal.returns
 returns c =

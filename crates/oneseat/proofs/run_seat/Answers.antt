@@ -1,6 +1,5 @@
 -- `oneseat::run_seat` meets its contract.
 use mathlib.Core.Path.{◌≡◌, refl}
-use native.Mathlib.Omega.{arith}
 use lib.ListN.{length}
 use Rattle.oneseat.proofs.run_seat.Goals as goal
 

@@ -6,12 +6,11 @@ use Rattle.ownfaults.specs.OwnLaws.{own_none, own_more, own_stop, own_end}
 use Rattle.ownfaults.proofs.own_entries.Goals as goal
 
 pub loop-k-init : goal.loop-k-init
-loop-k-init c =
-    (
-      omega arith,
-      own_none c.args.start.now c.args.plan.instances c.args.plan.arcs c.args.plan.first c.args.incoming.now
-          c.args.plan.slash c.args.entries.now c.args.count c.args.whom c.args.celltype.now c.args.event,
-    )
+loop-k-init c = (
+  omega arith,
+  own_none c.args.start.now c.args.plan.instances c.args.plan.arcs c.args.plan.first c.args.incoming.now
+      c.args.plan.slash c.args.entries.now c.args.count c.args.whom c.args.celltype.now c.args.event,
+)
 
 pub overflow_mul-row : goal.overflow_mul-row
 overflow_mul-row c =
@@ -34,13 +33,12 @@ pub loop-k-smaller : goal.loop-k-smaller
 loop-k-smaller c = omega arith
 
 pub loop-k-preserved : goal.loop-k-preserved
-loop-k-preserved c =
-    (
-      omega arith,
-      rw add-one (own_more c.args.start.now c.args.plan.instances c.args.plan.arcs c.args.plan.first c.args.incoming.now
-          c.args.plan.slash c.args.entries.now c.args.count c.args.whom c.args.celltype.now c.args.event c.loop-k.k c.own_refusal-refusal.result
-          (omega arith) c.loop-k.invariant.1 c.own_refusal-refusal.ensures c.if-refusal-eq-LACKING.false),
-    )
+loop-k-preserved c = (
+  omega arith,
+  rw add-one (own_more c.args.start.now c.args.plan.instances c.args.plan.arcs c.args.plan.first c.args.incoming.now
+      c.args.plan.slash c.args.entries.now c.args.count c.args.whom c.args.celltype.now c.args.event c.loop-k.k c.own_refusal-refusal.result
+      (omega arith) c.loop-k.invariant.1 c.own_refusal-refusal.ensures c.if-refusal-eq-LACKING.false),
+)
 
 pub returns : goal.returns
 returns c =

@@ -3,7 +3,6 @@ use Prim.Native.Nat.{◌+◌, ◌*◌}
 use mathlib.Core.Path.{refl}
 use native.Mathlib.Omega.{arith}
 use lib.ListN.{get_or}
-use Rattle.meaning.specs.Cells.{entries_within}
 use Rattle.patch.specs.PatchLaws.{cell_unread, none_come, cell_ready, cell_read, one-comes}
 use Rattle.patch.proofs.patch_cell.Goals as goal
 
@@ -25,24 +24,23 @@ bounds-cells2-6 c =
     omega (arith, ready.room2)
 
 pub swap_cell-swapped-requires : goal.swap_cell-swapped-requires
-swap_cell-swapped-requires c =
-    (
-      c.requires.0,
-      cell_ready c.args.start.now c.args.plan.instances c.args.plan.arcs c.args.plan.first c.args.file.now
-          c.args.incoming.now c.args.plan.slash c.args.unit c.args.cells.now c.args.entries.now c.args.count c.args.outgoing
-          c.args.cells2.now c.read_cell-read.new.cells c.args.entries2.now c.read_cell-read.new.entries c.read_cell-read.result
-          c.read_cell-read.ensures c.in-Read.one c.in-Read.all c.in-Read.is
-          (record {
-            outgoing = c.args.outgoing;
-            cells = c.args.count;
-            before = c.count_entries.result;
-            leaving = get_or c.args.cells.now
-                (7 * c.args.outgoing + 6) 0;
-            coming = get_or c.read_cell-read.new.cells 6 0;
-          }) c.requires.2 c.requires.3 c.requires.4 refl refl c.count_entries.ensures
-          refl refl,
-      c.requires.1,
-    )
+swap_cell-swapped-requires c = (
+  c.requires.0,
+  cell_ready c.args.start.now c.args.plan.instances c.args.plan.arcs c.args.plan.first c.args.file.now
+      c.args.incoming.now c.args.plan.slash c.args.unit c.args.cells.now c.args.entries.now c.args.count c.args.outgoing
+      c.args.cells2.now c.read_cell-read.new.cells c.args.entries2.now c.read_cell-read.new.entries c.read_cell-read.result
+      c.read_cell-read.ensures c.in-Read.one c.in-Read.all c.in-Read.is
+      (record {
+        outgoing = c.args.outgoing;
+        cells = c.args.count;
+        before = c.count_entries.result;
+        leaving = get_or c.args.cells.now
+            (7 * c.args.outgoing + 6) 0;
+        coming = get_or c.read_cell-read.new.cells 6 0;
+      }) c.requires.2 c.requires.3 c.requires.4 refl refl c.count_entries.ensures
+      refl refl,
+  c.requires.1,
+)
 
 pub returns-in-Refused : goal.returns-in-Refused
 returns-in-Refused c =
@@ -59,22 +57,21 @@ returns-in-Refused c =
     )
 
 pub returns-in-Read : goal.returns-in-Read
-returns-in-Read c =
-    (
-      cell_read c.args.start.now c.args.plan.instances c.args.plan.arcs c.args.plan.first c.args.file.now c.args.incoming.now
-          c.args.plan.slash c.args.unit c.args.cells.now c.args.entries.now c.args.count c.args.outgoing c.args.cells2.now
-          c.read_cell-read.new.cells c.args.entries2.now c.read_cell-read.new.entries c.read_cell-read.result c.read_cell-read.ensures
-          c.in-Read.one c.in-Read.all c.in-Read.is c.requires.4 (record {
-            outgoing = c.args.outgoing;
-            cells = c.args.count;
-            before = c.count_entries.result;
-            leaving = get_or c.args.cells.now (7 * c.args.outgoing + 6) 0;
-            coming = get_or c.read_cell-read.new.cells 6
-                0;
-          }) refl refl c.args.current.now c.swap_cell-swapped.new.current c.swap_cell-swapped.result c.swap_cell-swapped.ensures,
-      refl,
-      one-comes c.args.start.now c.args.plan.instances c.args.plan.arcs c.args.plan.first c.args.file.now
-          c.args.incoming.now c.args.plan.slash c.args.unit c.args.cells.now c.args.entries.now c.args.count c.args.outgoing
-          c.args.cells2.now c.read_cell-read.new.cells c.args.entries2.now c.read_cell-read.new.entries c.read_cell-read.result
-          c.read_cell-read.ensures c.in-Read.one c.in-Read.all c.in-Read.is,
-    )
+returns-in-Read c = (
+  cell_read c.args.start.now c.args.plan.instances c.args.plan.arcs c.args.plan.first c.args.file.now c.args.incoming.now
+      c.args.plan.slash c.args.unit c.args.cells.now c.args.entries.now c.args.count c.args.outgoing c.args.cells2.now
+      c.read_cell-read.new.cells c.args.entries2.now c.read_cell-read.new.entries c.read_cell-read.result c.read_cell-read.ensures
+      c.in-Read.one c.in-Read.all c.in-Read.is c.requires.4 (record {
+        outgoing = c.args.outgoing;
+        cells = c.args.count;
+        before = c.count_entries.result;
+        leaving = get_or c.args.cells.now (7 * c.args.outgoing + 6) 0;
+        coming = get_or c.read_cell-read.new.cells 6
+            0;
+      }) refl refl c.args.current.now c.swap_cell-swapped.new.current c.swap_cell-swapped.result c.swap_cell-swapped.ensures,
+  refl,
+  one-comes c.args.start.now c.args.plan.instances c.args.plan.arcs c.args.plan.first c.args.file.now
+      c.args.incoming.now c.args.plan.slash c.args.unit c.args.cells.now c.args.entries.now c.args.count c.args.outgoing
+      c.args.cells2.now c.read_cell-read.new.cells c.args.entries2.now c.read_cell-read.new.entries c.read_cell-read.result
+      c.read_cell-read.ensures c.in-Read.one c.in-Read.all c.in-Read.is,
+)

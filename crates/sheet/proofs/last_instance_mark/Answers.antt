@@ -20,13 +20,12 @@ pub loop-low-preserved-then-instance_mark_after : goal.loop-low-preserved-then-i
 loop-low-preserved-then-instance_mark_after c = (omega arith, omega arith, c.loop-low.invariant.2)
 
 pub loop-low-preserved : goal.loop-low-preserved
-loop-low-preserved c =
-    (
-      omega arith,
-      omega arith,
-      not_beyond (path_at c.args.sheet.now) (in_end c.args.sheet.now) cmp (canon c.args.slash c.args.path.now) c.args.count c.args.first
-          (stride_of c.args.count) _ (sym c.instance_mark_after.ensures ∙ c.if-instance_mark_after.false),
-    )
+loop-low-preserved c = (
+  omega arith,
+  omega arith,
+  not_beyond (path_at c.args.sheet.now) (in_end c.args.sheet.now) cmp (canon c.args.slash c.args.path.now) c.args.count c.args.first
+      (stride_of c.args.count) _ (sym c.instance_mark_after.ensures ∙ c.if-instance_mark_after.false),
+)
 
 pub returns : goal.returns
 returns c = (omega arith, c.loop-low.invariant.2)

@@ -19,13 +19,12 @@ pub loop-low-preserved-then-mark_after : goal.loop-low-preserved-then-mark_after
 loop-low-preserved-then-mark_after c = (omega arith, omega arith, c.loop-low.invariant.2)
 
 pub loop-low-preserved : goal.loop-low-preserved
-loop-low-preserved c =
-    (
-      omega arith,
-      omega arith,
-      not_beyond (key_at c.args.sheet.now) (ar_next c.args.sheet.now) cmp_key (wanted c.args.slash c.args.kind c.args.edge c.args.edge2 c.args.path.now c.args.name.now c.args.name2.now) c.args.count c.args.first (stride_of c.args.count) _ (sym c.mark_after.ensures
-          ∙ c.if-mark_after.false),
-    )
+loop-low-preserved c = (
+  omega arith,
+  omega arith,
+  not_beyond (key_at c.args.sheet.now) (ar_next c.args.sheet.now) cmp_key (wanted c.args.slash c.args.kind c.args.edge c.args.edge2 c.args.path.now c.args.name.now c.args.name2.now) c.args.count c.args.first (stride_of c.args.count) _ (sym c.mark_after.ensures
+      ∙ c.if-mark_after.false),
+)
 
 pub returns : goal.returns
 returns c = (omega arith, c.loop-low.invariant.2)

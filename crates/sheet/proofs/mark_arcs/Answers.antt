@@ -26,14 +26,13 @@ next_arc-here-requires c =
     c.requires.0).1
 
 pub loop-k-preserved : goal.loop-k-preserved
-loop-k-preserved c =
-    (
-      search rules,
-      c.next_arc-here.ensures ∙ rw c.loop-k.invariant.1 (sym (nth-next (ar_next c.args.sheet.now) c.loop-k.k c.args.first)),
-      c.put_mark.ensures
-          ∙ rw (c.loop-k.invariant.2, c.loop-k.invariant.1, c.stride_of-stride.ensures) (sym (marked_more (ar_next c.args.sheet.now) c.args.first
-          (stride_of c.args.count) c.args.marks.now c.loop-k.k)),
-    )
+loop-k-preserved c = (
+  search rules,
+  c.next_arc-here.ensures ∙ rw c.loop-k.invariant.1 (sym (nth-next (ar_next c.args.sheet.now) c.loop-k.k c.args.first)),
+  c.put_mark.ensures
+      ∙ rw (c.loop-k.invariant.2, c.loop-k.invariant.1, c.stride_of-stride.ensures) (sym (marked_more (ar_next c.args.sheet.now) c.args.first
+      (stride_of c.args.count) c.args.marks.now c.loop-k.k)),
+)
 
 pub returns : goal.returns
 returns c =

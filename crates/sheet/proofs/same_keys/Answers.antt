@@ -1,7 +1,6 @@
 -- `sheet::same_keys` meets its contract.
 use Rattle.sheet.specs.Find.{arcs_tail}
 use Rattle.sheet.specs.Same.{same_more, same_end}
-use borrow.Author.Tests.{not-true, not-false}
 use borrow.Author.Rules.{rules}
 use native.Mathlib.Omega.{arith}
 use mathlib.Core.Path.{◌≡◌, refl, sym, ◌∙◌}
@@ -42,18 +41,17 @@ overflow_add-here c =
     c.loop-k.here (rw e at c.loop-k.invariant.1)).0 in omega (arith, c.values_place-end.ensures)
 
 pub loop-k-preserved : goal.loop-k-preserved
-loop-k-preserved c =
-    (
-      search rules,
-      rw c.values_place-end.ensures (let e : (c.args).count - (c.loop-k).k ≡ suc (c.args.count - (c.loop-k.k + 1)) = omega arith
-          in arcs_tail c.args.sheet.now (c.args.count - (c.loop-k.k + 1)) c.loop-k.here (rw e at c.loop-k.invariant.1)).1,
-      sym (same_more c.args.sheet.now c.args.other.now c.args.count c.loop-k.k
-          c.loop-k.here (search rules) ∙ rw (
-            ← c.values_place-end.ensures,
-            ← c.same_part.ensures,
-            c.if-not-same_part.false,
-          )) ∙ c.loop-k.invariant.2,
-    )
+loop-k-preserved c = (
+  search rules,
+  rw c.values_place-end.ensures (let e : (c.args).count - (c.loop-k).k ≡ suc (c.args.count - (c.loop-k.k + 1)) = omega arith
+      in arcs_tail c.args.sheet.now (c.args.count - (c.loop-k.k + 1)) c.loop-k.here (rw e at c.loop-k.invariant.1)).1,
+  sym (same_more c.args.sheet.now c.args.other.now c.args.count c.loop-k.k
+      c.loop-k.here (search rules) ∙ rw (
+        ← c.values_place-end.ensures,
+        ← c.same_part.ensures,
+        c.if-not-same_part.false,
+      )) ∙ c.loop-k.invariant.2,
+)
 
 pub returns : goal.returns
 returns c =

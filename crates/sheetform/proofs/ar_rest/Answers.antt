@@ -8,8 +8,7 @@ use Rattle.sheetform.proofs.ar_rest.Goals as goal
 
 pub returns-in_default : goal.returns-in_default
 unfolding ar_rest
-returns-in_default c =
-    (
+returns-in_default c = (
   rw (← c.edge_top-top.ensures) (stuck c.edge_step-t1.result _ _
       c.edge_step-t1.ensures.0 (not-next c.edge_step-t1.result c.in_default.in_default-own.keys2)),
   c.edge_step-t1.ensures.1,
@@ -20,8 +19,7 @@ name_step-t2-requires c = omega (arith, ap reach c.in-Next.is)
 
 pub returns-in_default-t2 : goal.returns-in_default-t2
 unfolding ar_rest
-returns-in_default-t2 c =
-    (
+returns-in_default-t2 c = (
   rw (
     ← c.edge_top-top.ensures,
     sym
@@ -38,8 +36,7 @@ edge_step-t3-requires c =
 
 pub returns-in_default-t3 : goal.returns-in_default-t3
 unfolding ar_rest
-returns-in_default-t3 c =
-    (
+returns-in_default-t3 c = (
   rw (
     ← c.edge_top-top.ensures,
     sym
@@ -68,8 +65,7 @@ name_step-t4-requires c =
 
 pub returns-in_default-t4 : goal.returns-in_default-t4
 unfolding ar_rest
-returns-in_default-t4 c =
-    (
+returns-in_default-t4 c = (
   rw (
     ← c.edge_top-top.ensures,
     sym
@@ -102,8 +98,7 @@ values_step-requires c =
 
 pub returns : goal.returns
 unfolding ar_rest
-returns c =
-    (
+returns c = (
   rw (
     ← c.edge_top-top.ensures,
     sym

@@ -16,11 +16,10 @@ pub ar_step-t-requires : goal.ar_step-t-requires
 ar_step-t-requires c = (c.loop-k.invariant.1, c.loop-k.invariant.2)
 
 pub returns-in_default : goal.returns-in_default
-returns-in_default c =
-    (
-      stuck c.ar_step-t.result _ _ c.ar_step-t.ensures.0 (not-next c.ar_step-t.result c.in_default.in_default-own.keys2) ∙ sym (arc-more c.args.sheet.now c.args.count c.loop-k.k c.loop-k.prev c.loop-k.here (search rules)) ∙ c.loop-k.invariant.3,
-      c.ar_step-t.ensures.1,
-    )
+returns-in_default c = (
+  stuck c.ar_step-t.result _ _ c.ar_step-t.ensures.0 (not-next c.ar_step-t.result c.in_default.in_default-own.keys2) ∙ sym (arc-more c.args.sheet.now c.args.count c.loop-k.k c.loop-k.prev c.loop-k.here (search rules)) ∙ c.loop-k.invariant.3,
+  c.ar_step-t.ensures.1,
+)
 
 pub loop-k-preserved : goal.loop-k-preserved
 loop-k-preserved c =

@@ -8,8 +8,7 @@ use Rattle.sheetform.proofs.back_step.Goals as goal
 
 pub returns-in_default : goal.returns-in_default
 unfolding back_step
-returns-in_default c =
-    (
+returns-in_default c = (
   rw (← c.u32_at-n.ensures.0) (stuck c.arcs_step-t.result _ _
       c.arcs_step-t.ensures.0 (not-next c.arcs_step-t.result c.in_default.in_default-own.keys2)),
   c.arcs_step-t.ensures.1,
@@ -20,8 +19,7 @@ end_step-requires c = omega (arith, ap reach c.in-Next.is)
 
 pub returns : goal.returns
 unfolding back_step
-returns c =
-    (
+returns c = (
   rw (
     ← c.u32_at-n.ensures.0,
     sym c.arcs_step-t.ensures.0

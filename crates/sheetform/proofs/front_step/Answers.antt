@@ -8,8 +8,7 @@ use Rattle.sheetform.proofs.front_step.Goals as goal
 
 pub returns-in_default : goal.returns-in_default
 unfolding front_step
-returns-in_default c =
-    (
+returns-in_default c = (
   (stuck c.head_step-t.result _ _ c.head_step-t.ensures.0 (not-next
       c.head_step-t.result c.in_default.in_default-own.keys2)),
   c.head_step-t.ensures.1,
@@ -26,8 +25,7 @@ ins_step-requires c = omega (arith, ap reach c.in-Next.is)
 
 pub returns : goal.returns
 unfolding front_step
-returns c =
-    (
+returns c = (
   rw (
     sym c.head_step-t.ensures.0 ∙ c.in-Next.is,
     ← c.u32_at-n.ensures.0,

@@ -8,8 +8,7 @@ use Rattle.sheetform.proofs.head_step.Goals as goal
 
 pub returns-in_default : goal.returns-in_default
 unfolding head_step
-returns-in_default c =
-    (
+returns-in_default c = (
   (stuck c.mark_step-t1.result _ _ c.mark_step-t1.ensures.0 (not-next
       c.mark_step-t1.result c.in_default.in_default-own.keys2)),
   c.mark_step-t1.ensures.1,
@@ -20,8 +19,7 @@ format_step-t2-requires c = omega (arith, ap reach c.in-Next.is)
 
 pub returns-in_default-t2 : goal.returns-in_default-t2
 unfolding head_step
-returns-in_default-t2 c =
-    (
+returns-in_default-t2 c = (
   rw (sym c.mark_step-t1.ensures.0 ∙ c.in-Next.is)
       (stuck c.format_step-t2.result _ _ c.format_step-t2.ensures.0 (not-next
       c.format_step-t2.result c.in_default-t2.in_default-t2-own.keys2)),
@@ -34,8 +32,7 @@ room_step-t3-requires c =
 
 pub returns-in_default-t3 : goal.returns-in_default-t3
 unfolding head_step
-returns-in_default-t3 c =
-    (
+returns-in_default-t3 c = (
   rw (
     sym c.mark_step-t1.ensures.0
         ∙ c.in-Next.is,
@@ -59,8 +56,7 @@ room_step-requires c =
 
 pub returns : goal.returns
 unfolding head_step
-returns c =
-    (
+returns c = (
   rw (
     sym c.mark_step-t1.ensures.0
         ∙ c.in-Next.is,

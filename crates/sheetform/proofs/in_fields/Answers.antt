@@ -8,8 +8,7 @@ use Rattle.sheetform.proofs.in_fields.Goals as goal
 
 pub returns-in_default : goal.returns-in_default
 unfolding in_fields
-returns-in_default c =
-    (
+returns-in_default c = (
   (stuck c.mark_step-t1.result _ _ c.mark_step-t1.ensures.0 (not-next
       c.mark_step-t1.result c.in_default.in_default-own.keys2)),
   c.mark_step-t1.ensures.1,
@@ -20,8 +19,7 @@ name_step-t2-requires c = omega (arith, ap reach c.in-Next.is)
 
 pub returns-in_default-t2 : goal.returns-in_default-t2
 unfolding in_fields
-returns-in_default-t2 c =
-    (
+returns-in_default-t2 c = (
   rw (sym c.mark_step-t1.ensures.0 ∙ c.in-Next.is)
       (stuck c.name_step-t2.result _ _ c.name_step-t2.ensures.0 (not-next
       c.name_step-t2.result c.in_default-t2.in_default-t2-own.keys2)),
@@ -34,8 +32,7 @@ name_step-requires c =
 
 pub returns : goal.returns
 unfolding in_fields
-returns c =
-    (
+returns c = (
   rw (
     sym c.mark_step-t1.ensures.0
         ∙ c.in-Next.is,

@@ -26,28 +26,26 @@ path_cmp-by_path-requires c =
 
 pub returns-then-by_path-eq0 : goal.returns-then-by_path-eq0
 unfolding in_order_step
-returns-then-by_path-eq0 c =
-    (
-      rw (
-        ne_eqb _ _ c.if-prev-eq0.false,
-        sym c.path_step-t.ensures.0 ∙ c.in-Next.is,
-        ← c.path_cmp-by_path.ensures,
-        eq-eqb _ _
-            c.if-by_path-eq0.true,
-      ),
-      search rules,
-    )
+returns-then-by_path-eq0 c = (
+  rw (
+    ne_eqb _ _ c.if-prev-eq0.false,
+    sym c.path_step-t.ensures.0 ∙ c.in-Next.is,
+    ← c.path_cmp-by_path.ensures,
+    eq-eqb _ _
+        c.if-by_path-eq0.true,
+  ),
+  search rules,
+)
 
 pub returns : goal.returns
 unfolding in_order_step
-returns c =
-    (
-      rw (
-        ne_eqb _ _ c.if-prev-eq0.false,
-        sym c.path_step-t.ensures.0 ∙ c.in-Next.is,
-        ← c.path_cmp-by_path.ensures,
-        ne_eqb _ _
-            c.if-by_path-eq0.false,
-      ),
-      search rules,
-    )
+returns c = (
+  rw (
+    ne_eqb _ _ c.if-prev-eq0.false,
+    sym c.path_step-t.ensures.0 ∙ c.in-Next.is,
+    ← c.path_cmp-by_path.ensures,
+    ne_eqb _ _
+        c.if-by_path-eq0.false,
+  ),
+  search rules,
+)

@@ -8,8 +8,7 @@ use Rattle.sheetform.proofs.key_step.Goals as goal
 
 pub returns-in_default : goal.returns-in_default
 unfolding key_step
-returns-in_default c =
-    (
+returns-in_default c = (
   (stuck c.mark_step-t.result _ _ c.mark_step-t.ensures.0 (not-next
       c.mark_step-t.result c.in_default.in_default-own.keys2)),
   c.mark_step-t.ensures.1,
@@ -20,8 +19,7 @@ room_step-t2-requires c = omega (arith, ap reach c.in-Next.is)
 
 pub returns-in_default-t2 : goal.returns-in_default-t2
 unfolding key_step
-returns-in_default-t2 c =
-    (
+returns-in_default-t2 c = (
   rw (sym c.mark_step-t.ensures.0 ∙ c.in-Next.is)
       (stuck c.room_step-t2.result _ _ c.room_step-t2.ensures.0 (not-next
       c.room_step-t2.result c.in_default-t2.in_default-t2-own.keys2)),
@@ -34,8 +32,7 @@ len_step-t3-requires c =
 
 pub returns-in_default-t3 : goal.returns-in_default-t3
 unfolding key_step
-returns-in_default-t3 c =
-    (
+returns-in_default-t3 c = (
   rw (
     sym c.mark_step-t.ensures.0
         ∙ c.in-Next.is,
@@ -61,8 +58,7 @@ room_step-t4-requires c =
 
 pub returns-in_default-t4 : goal.returns-in_default-t4
 unfolding key_step
-returns-in_default-t4 c =
-    (
+returns-in_default-t4 c = (
   rw (
     sym
         c.mark_step-t.ensures.0
@@ -94,8 +90,7 @@ len_step-requires c =
 
 pub returns : goal.returns
 unfolding key_step
-returns c =
-    (
+returns c = (
   rw (
     sym
         c.mark_step-t.ensures.0

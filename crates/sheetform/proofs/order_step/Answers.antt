@@ -26,28 +26,26 @@ key_cmp-order-requires c =
 
 pub returns-then-order-eq0 : goal.returns-then-order-eq0
 unfolding order_step
-returns-then-order-eq0 c =
-    (
-      rw (
-        ne_eqb _ _ c.if-prev-eq0.false,
-        sym c.key_step-t.ensures.0 ∙ c.in-Next.is,
-        ← c.key_cmp-order.ensures,
-        eq-eqb _ _
-            c.if-order-eq0.true,
-      ),
-      search rules,
-    )
+returns-then-order-eq0 c = (
+  rw (
+    ne_eqb _ _ c.if-prev-eq0.false,
+    sym c.key_step-t.ensures.0 ∙ c.in-Next.is,
+    ← c.key_cmp-order.ensures,
+    eq-eqb _ _
+        c.if-order-eq0.true,
+  ),
+  search rules,
+)
 
 pub returns : goal.returns
 unfolding order_step
-returns c =
-    (
-      rw (
-        ne_eqb _ _ c.if-prev-eq0.false,
-        sym c.key_step-t.ensures.0 ∙ c.in-Next.is,
-        ← c.key_cmp-order.ensures,
-        ne_eqb _ _
-            c.if-order-eq0.false,
-      ),
-      search rules,
-    )
+returns c = (
+  rw (
+    ne_eqb _ _ c.if-prev-eq0.false,
+    sym c.key_step-t.ensures.0 ∙ c.in-Next.is,
+    ← c.key_cmp-order.ensures,
+    ne_eqb _ _
+        c.if-order-eq0.false,
+  ),
+  search rules,
+)

@@ -8,8 +8,7 @@ use Rattle.sheetform.proofs.path_step.Goals as goal
 
 pub returns-in_default : goal.returns-in_default
 unfolding path_step
-returns-in_default c =
-    (
+returns-in_default c = (
   (stuck c.mark_step-t.result _ _ c.mark_step-t.ensures.0 (not-next
       c.mark_step-t.result c.in_default.in_default-own.keys2)),
   c.mark_step-t.ensures.1,
@@ -20,8 +19,7 @@ len_step-requires c = omega (arith, ap reach c.in-Next.is)
 
 pub returns : goal.returns
 unfolding path_step
-returns c =
-    (
+returns c = (
   rw (sym c.mark_step-t.ensures.0 ∙ c.in-Next.is) c.len_step.ensures.0,
   c.len_step.ensures.1,
 )

@@ -6,8 +6,7 @@ use Rattle.sheetparts.proofs.len_step.Goals as goal
 
 pub returns-then-n-sheet : goal.returns-then-n-sheet
 unfolding len_step
-returns-then-n-sheet c =
-    (
+returns-then-n-sheet c = (
   rw (
     le-leb _ _ c.if-sheet-place-ge2.true,
     ← c.u16_at-n.ensures.0,
@@ -21,8 +20,7 @@ returns-then-n-sheet c =
 
 pub returns-then-n-most : goal.returns-then-n-most
 unfolding len_step
-returns-then-n-most c =
-    (
+returns-then-n-most c = (
   rw (
     le-leb _ _ c.if-sheet-place-ge2.true,
     ← c.u16_at-n.ensures.0,
@@ -36,8 +34,7 @@ returns-then-n-most c =
 
 pub returns-then-least-n : goal.returns-then-least-n
 unfolding len_step
-returns-then-least-n c =
-    (
+returns-then-least-n c = (
   rw (
     le-leb _ _ c.if-sheet-place-ge2.true,
     ← c.u16_at-n.ensures.0,

@@ -6,8 +6,7 @@ use Rattle.sheetparts.proofs.mark_step.Goals as goal
 
 pub returns-then-sheet-place-2 : goal.returns-then-sheet-place-2
 unfolding mark_step
-returns-then-sheet-place-2 c =
-    (
+returns-then-sheet-place-2 c = (
   rw (
     le-leb _ _ c.if-sheet-place-ge2.true,
     eq-eqb _ _ c.if-sheet-place.true,
@@ -19,8 +18,7 @@ returns-then-sheet-place-2 c =
 
 pub returns-then-sheet-place : goal.returns-then-sheet-place
 unfolding mark_step
-returns-then-sheet-place c =
-    (
+returns-then-sheet-place c = (
   rw (le-leb _ _ c.if-sheet-place-ge2.true, eq-eqb _ _ c.if-sheet-place.true, ne_eqb _ _ c.if-sheet-place-2.false),
   search rules,
 )

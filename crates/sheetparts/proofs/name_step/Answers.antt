@@ -11,11 +11,10 @@ use Rattle.sheetparts.proofs.name_step.Goals as goal
 
 pub returns-in_default : goal.returns-in_default
 unfolding name_step
-returns-in_default c =
-    (
-      stuck c.len_step-t.result _ _ c.len_step-t.ensures.0 (not-next c.len_step-t.result c.in_default.in_default-own.keys2),
-      c.len_step-t.ensures.1,
-    )
+returns-in_default c = (
+  stuck c.len_step-t.result _ _ c.len_step-t.ensures.0 (not-next c.len_step-t.result c.in_default.in_default-own.keys2),
+  c.len_step-t.ensures.1,
+)
 
 pub slice_bounds-shape_ok-count : goal.slice_bounds-shape_ok-count
 slice_bounds-shape_ok-count c =

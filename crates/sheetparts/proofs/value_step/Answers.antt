@@ -6,8 +6,7 @@ use Rattle.sheetparts.proofs.value_step.Goals as goal
 
 pub returns-then-value_ok : goal.returns-then-value_ok
 unfolding value_step
-returns-then-value_ok c =
-    (
+returns-then-value_ok c = (
   rw (
     le-leb _ _ c.if-sheet-place-ge8.true,
     ← c.u64_at-bits.ensures,
@@ -19,8 +18,7 @@ returns-then-value_ok c =
 
 pub returns-then-sheet-place-ge8 : goal.returns-then-sheet-place-ge8
 unfolding value_step
-returns-then-sheet-place-ge8 c =
-    (
+returns-then-sheet-place-ge8 c = (
   rw (
     le-leb _ _ c.if-sheet-place-ge8.true,
     ← c.u64_at-bits.ensures,

@@ -13,12 +13,11 @@ pub loop-i-init : goal.loop-i-init
 loop-i-init c = (search rules, search rules, let e : c.args.count - 0 ≡ c.args.count = omega arith in rw e)
 
 pub returns-in_default : goal.returns-in_default
-returns-in_default c =
-    (
-      stuck c.value_step-t.result _ _ c.value_step-t.ensures.0 (not-next c.value_step-t.result c.in_default.in_default-own.keys2) ∙ sym
-          (value-more c.args.sheet.now c.args.kind c.args.count c.loop-i.i c.loop-i.here (search rules)) ∙ c.loop-i.invariant.2,
-      c.value_step-t.ensures.1,
-    )
+returns-in_default c = (
+  stuck c.value_step-t.result _ _ c.value_step-t.ensures.0 (not-next c.value_step-t.result c.in_default.in_default-own.keys2) ∙ sym
+      (value-more c.args.sheet.now c.args.kind c.args.count c.loop-i.i c.loop-i.here (search rules)) ∙ c.loop-i.invariant.2,
+  c.value_step-t.ensures.1,
+)
 
 pub loop-i-preserved : goal.loop-i-preserved
 loop-i-preserved c =

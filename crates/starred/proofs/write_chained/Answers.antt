@@ -4,9 +4,8 @@ use Rattle.entryarcs.specs.Turns.{written_with, written_without, written_same, t
 use Rattle.bytype.specs.Chains.{chain_head, chain_next, skip_head, skip_next}
 use Rattle.bytype.specs.ByType.{bucket_of, type_bucket, link_place, other_bucket}
 use Rattle.sheet.specs.Find.{in_there}
-use lib.ListN.{length}
 use native.Mathlib.Omega.{arith}
-use mathlib.Core.Path.{◌≡◌, refl, sym, ◌∙◌, ap}
+use mathlib.Core.Path.{◌≡◌, refl, sym, ◌∙◌}
 use Prim.Native.Nat.{◌<◌}
 use Rattle.starred.proofs.write_chained.Goals as goal
 use Rattle.starred.proofs.write_chained.Goals.{then-is_of, else-is_of}
@@ -21,8 +20,7 @@ pub loop-k-init : goal.loop-k-init
 unfolding written_of
 loop-k-init c =
     let test = typed c.args.start.now c.args.celltype.now in
-    let write = writes_in c.args.start.now c.args.text.now c.args.plan.slash c.args.plan.instances c.args.plan.arcs c.args.plan.first c.args.entry c.args.rows in
-    (
+    let write = writes_in c.args.start.now c.args.text.now c.args.plan.slash c.args.plan.instances c.args.plan.arcs c.args.plan.first c.args.entry c.args.rows in (
       chain_head link_place (type_bucket c.args.start.now) c.args.plan.instances c.args.index.now c.requires.2.chain (bucket_of c.args.celltype.now) _ _ c.bucket_of-bucket.ensures.0 c.bucket_of-bucket.ensures.1 c.widen-k.ensures,
       sym (skip_head link_place (type_bucket c.args.start.now) c.args.plan.instances c.args.index.now c.requires.2.chain (bucket_of c.args.celltype.now) test (other_bucket c.args.start.now c.args.celltype.now) (written_of test write c.args.out.now) (written_same test write c.args.out.now) _ _ c.bucket_of-bucket.ensures.0
           c.bucket_of-bucket.ensures.1 c.widen-k.ensures),
@@ -87,11 +85,14 @@ loop-k-preserved c =
     let is = type-is c.args.start.now c.args.celltype.now c.loop-k.k _ _ e c.is_of.ensures in
     let skip = skip_next link_place (type_bucket c.args.start.now) c.args.plan.instances c.args.index.now c.requires.2.chain (bucket_of c.args.celltype.now) test (other_bucket c.args.start.now c.args.celltype.now) (written_of test write c.args.out.now) (written_same test write c.args.out.now) c.loop-k.k _ low c.loop-k.invariant.0 c.widen-k-in-loop-k.ensures in
     let on = (chain_next link_place (type_bucket c.args.start.now) c.args.plan.instances c.args.index.now c.requires.2.chain (bucket_of c.args.celltype.now) c.loop-k.k _ low c.loop-k.invariant.0 c.widen-k-in-loop-k.ensures).0 in
-    elim c.if-is_of.branch [ then-is_of w ↦ (
-      on,
-      written_with test c.loop-k.k write c.args.out.now _ c.loop-k.out (is ∙ w.if-is_of.true) c.loop-k.invariant.1 (w.out-is ∙ w.write_at.ensures ∙ rw e refl) ∙ sym skip,
-      c.if-is_of.auto.out ∙ c.loop-k.invariant.2,
-    ) | else-is_of w ↦ (on, written_without test c.loop-k.k write c.args.out.now _ (is ∙ w.if-is_of.false) (w.out-is ∙ c.loop-k.invariant.1) ∙ sym skip, c.if-is_of.auto.out ∙ c.loop-k.invariant.2) ]
+    elim c.if-is_of.branch [
+      | then-is_of w ↦ (
+        on,
+        written_with test c.loop-k.k write c.args.out.now _ c.loop-k.out (is ∙ w.if-is_of.true) c.loop-k.invariant.1 (w.out-is ∙ w.write_at.ensures ∙ rw e refl) ∙ sym skip,
+        c.if-is_of.auto.out ∙ c.loop-k.invariant.2,
+      )
+      | else-is_of w ↦ (on, written_without test c.loop-k.k write c.args.out.now _ (is ∙ w.if-is_of.false) (w.out-is ∙ c.loop-k.invariant.1) ∙ sym skip, c.if-is_of.auto.out ∙ c.loop-k.invariant.2)
+    ]
 
 pub shape_of-out : goal.shape_of-out
 shape_of-out c = c.loop-k.invariant.2

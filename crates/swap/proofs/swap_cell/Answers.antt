@@ -1,9 +1,7 @@
 -- `swap::swap_cell` meets its contract.
-use native.Mathlib.Omega.{arith}
 use borrow.Author.Rules.{rules}
 use Rattle.sheet.specs.Find.{sheet_good, arcs_ready, instances_ready}
 use Rattle.ownfaults.specs.OwnLaws.{own_least}
-use Rattle.swaparcs.specs.Turns.{events_fit}
 use Rattle.swap.specs.SwapLaws.{MoversAre, movers, swap_answered}
 use Rattle.swap.proofs.swap_cell.Goals as goal
 

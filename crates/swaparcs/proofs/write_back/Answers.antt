@@ -2,7 +2,6 @@
 use Prim.Native.Nat.{ℕ, ◌+◌, ◌*◌}
 use mathlib.Core.Path.{◌≡◌, refl, ◌∙◌, ap}
 use native.Mathlib.Omega.{arith}
-use lib.ListN.{length}
 use lib.Seq.{paste}
 use borrow.Author.Rules.{rules}
 use Rattle.wire.specs.Wire.{be_bytes}
@@ -34,18 +33,21 @@ write_i64-requires c =
 
 pub loop-slot-preserved : goal.loop-slot-preserved
 loop-slot-preserved c =
-    elim c.if-flags-slot-ne0.branch [ then-flags-slot-ne0 w ↦ (
-      omega arith,
-      value_with c.args.current.now c.args.at c.args.state.now c.args.flags.now c.loop-slot.slot _ c.loop-slot.current c.loop-slot.invariant.1
-          w.if-flags-slot-ne0.true (w.current-is ∙ w.write_i64.ensures ∙ ap (λ (n : ℕ). paste c.loop-slot.current (c.args.at + 8 * c.loop-slot.slot) (be_bytes n) 8)
-          (bits_back w.of_bits.result w.u64_at-word.result (search rules) w.of_bits.ensures ∙ w.u64_at-word.ensures)),
-      c.if-flags-slot-ne0.auto.current ∙ c.loop-slot.invariant.2,
-    ) | else-flags-slot-ne0 w ↦ (
-      omega arith,
-      value_without c.args.current.now c.args.at c.args.state.now c.args.flags.now c.loop-slot.slot _ c.loop-slot.current
-          c.loop-slot.invariant.1 w.if-flags-slot-ne0.false w.current-is,
-      c.if-flags-slot-ne0.auto.current ∙ c.loop-slot.invariant.2,
-    ) ]
+    elim c.if-flags-slot-ne0.branch [
+      | then-flags-slot-ne0 w ↦ (
+        omega arith,
+        value_with c.args.current.now c.args.at c.args.state.now c.args.flags.now c.loop-slot.slot _ c.loop-slot.current c.loop-slot.invariant.1
+            w.if-flags-slot-ne0.true (w.current-is ∙ w.write_i64.ensures ∙ ap (λ (n : ℕ). paste c.loop-slot.current (c.args.at + 8 * c.loop-slot.slot) (be_bytes n) 8)
+            (bits_back w.of_bits.result w.u64_at-word.result (search rules) w.of_bits.ensures ∙ w.u64_at-word.ensures)),
+        c.if-flags-slot-ne0.auto.current ∙ c.loop-slot.invariant.2,
+      )
+      | else-flags-slot-ne0 w ↦ (
+        omega arith,
+        value_without c.args.current.now c.args.at c.args.state.now c.args.flags.now c.loop-slot.slot _ c.loop-slot.current
+            c.loop-slot.invariant.1 w.if-flags-slot-ne0.false w.current-is,
+        c.if-flags-slot-ne0.auto.current ∙ c.loop-slot.invariant.2,
+      )
+    ]
 
 pub shape_of-current : goal.shape_of-current
 shape_of-current c =

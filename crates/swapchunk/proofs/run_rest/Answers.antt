@@ -1,8 +1,6 @@
 -- `swapchunk::run_rest` meets its contract.
 use mathlib.Core.Path.{sym, ◌∙◌}
-use native.Mathlib.Omega.{arith}
 use native.Mathlib.Numerals.{add-one}
-use Rattle.swaparcs.specs.Turns.{leaves, behind-at, events_fit}
 use Rattle.seating.specs.Through.{through_own, through-behind}
 use Rattle.swapchunk.proofs.run_rest.Goals as goal
 

@@ -1,8 +1,5 @@
 -- `swapchunk::run_seated` meets its contract.
-use mathlib.Core.Path.{refl, sym, ◌∙◌}
-use native.Mathlib.Omega.{arith}
-use Rattle.meaning.specs.Cells.{entries_before}
-use Rattle.swaparcs.specs.Turns.{front-room, events_fit}
+use mathlib.Core.Path.{sym, ◌∙◌}
 use Rattle.seating.specs.Through.{through_before, front_ran}
 use Rattle.swapchunk.proofs.run_seated.Goals as goal
 

@@ -30,12 +30,11 @@ returns-then-v-ge-STOP c =
     (omega (arith, mul-le-mul_left c.loop-left.v (one-le-pow c.loop-left.left 10 (lit< tt)), c.loop-left.invariant.2), search rules)
 
 pub loop-left-preserved : goal.loop-left-preserved
-loop-left-preserved c =
-    (
-      search rules,
-      search rules,
-      ap (λ k. min (k * 10 ^ (c.loop-left.left - 1)) stop) c.put-v.ensures.0 ∙ raise_step c.loop-left.v c.loop-left.left (search rules) ∙ c.loop-left.invariant.2,
-    )
+loop-left-preserved c = (
+  search rules,
+  search rules,
+  ap (λ k. min (k * 10 ^ (c.loop-left.left - 1)) stop) c.put-v.ensures.0 ∙ raise_step c.loop-left.v c.loop-left.left (search rules) ∙ c.loop-left.invariant.2,
+)
 
 pub returns : goal.returns
 returns c =

@@ -7,12 +7,11 @@ use Rattle.numbershape.specs.Steps.{fold, step_of, fold_turn, fold_end}
 use Rattle.times.proofs.read_digits.Goals as goal
 
 pub loop-i-preserved : goal.loop-i-preserved
-loop-i-preserved c =
-    (
-      search rules,
-      search rules,
-      ap (λ x. fold step_of x (drop (c.loop-i.i + 1) c.args.text.now)) c.step-digits.ensures.0 ∙ fold_turn step_of c.loop-i.digits c.args.text.now c.loop-i.i (search rules) ∙ c.loop-i.invariant.2,
-    )
+loop-i-preserved c = (
+  search rules,
+  search rules,
+  ap (λ x. fold step_of x (drop (c.loop-i.i + 1) c.args.text.now)) c.step-digits.ensures.0 ∙ fold_turn step_of c.loop-i.digits c.args.text.now c.loop-i.i (search rules) ∙ c.loop-i.invariant.2,
+)
 
 pub returns : goal.returns
 returns c =

@@ -1,15 +1,9 @@
 -- `times::time_to` meets its contract: by what the number is.
-use Prim.Native.Nat.{ℕ}
-use mathlib.Core.Path.{◌≡◌, refl, ap, sym, ◌∙◌}
-use mathlib.Core.Logic.{⊎_elim}
-use native.Mathlib.Omega.{arith}
+use mathlib.Core.Path.{◌≡◌, ap, sym, ◌∙◌}
 use mir.Syntax.{w64}
 use mir.Val.{to_z, of_z}
-use denote.Enum.Declared.{tag_of, declared}
 use borrow.Author.Rules.{rules}
-use Rattle.numbershape.specs.declared.Number.{Number}
 use Rattle.numbershape.specs.declared.Number.TheVariants as number
-use Rattle.numbershape.specs.contracts.Number.{enum}
 use Rattle.times.specs.declared.Plainly.TheVariants as found
 use Rattle.times.specs.Standing.{time_to}
 use Rattle.times.proofs.time_to.Goals as goal

@@ -1,7 +1,6 @@
 -- `touching::touch_rows` meets its contract. Invariant: the flags behind the slots so far.
-use mathlib.Core.Path.{◌≡◌, refl, ◌∙◌, ap}
+use mathlib.Core.Path.{◌≡◌, refl, ◌∙◌}
 use native.Mathlib.Omega.{arith}
-use lib.ListN.{length, length-set}
 use Rattle.amounts.specs.Amounts.{given}
 use Rattle.patching.specs.Scratch.{touched_flags}
 use Rattle.touching.specs.Turns.{slot_with, slot_without}
@@ -19,15 +18,18 @@ bounds-flags-slot c =
 pub loop-slot-preserved : goal.loop-slot-preserved
 unfolding given
 loop-slot-preserved c =
-    elim c.if-rows-slot.branch [ then-rows-slot w ↦ (
-      omega arith,
-      slot_with c.args.flags.now _ c.loop-slot.slot _ c.loop-slot.flags c.loop-slot.invariant.1 w.if-rows-slot.true w.flags-is,
-      c.if-rows-slot.auto.flags ∙ c.loop-slot.invariant.2,
-    ) | else-rows-slot w ↦ (
-      omega arith,
-      slot_without c.args.flags.now _ c.loop-slot.slot _ c.loop-slot.flags c.loop-slot.invariant.1 w.if-rows-slot.false w.flags-is,
-      c.if-rows-slot.auto.flags ∙ c.loop-slot.invariant.2,
-    ) ]
+    elim c.if-rows-slot.branch [
+      | then-rows-slot w ↦ (
+        omega arith,
+        slot_with c.args.flags.now _ c.loop-slot.slot _ c.loop-slot.flags c.loop-slot.invariant.1 w.if-rows-slot.true w.flags-is,
+        c.if-rows-slot.auto.flags ∙ c.loop-slot.invariant.2,
+      )
+      | else-rows-slot w ↦ (
+        omega arith,
+        slot_without c.args.flags.now _ c.loop-slot.slot _ c.loop-slot.flags c.loop-slot.invariant.1 w.if-rows-slot.false w.flags-is,
+        c.if-rows-slot.auto.flags ∙ c.loop-slot.invariant.2,
+      )
+    ]
 
 pub shape_of-flags : goal.shape_of-flags
 shape_of-flags c =

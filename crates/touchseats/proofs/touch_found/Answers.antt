@@ -14,8 +14,7 @@ pub is_meant-requires : goal.is_meant-requires
 is_meant-requires c = (c.requires.0, order_there c.args.start.now c.args.plan.arcs c.args.plan.first c.args.arcs.now c.args.count c.requires.1.good c.requires.3 c.find_seat-seat.result c.if-seat-count.true, c.requires.2)
 
 pub returns-then-is_meant : goal.returns-then-is_meant
-returns-then-is_meant c =
-    (
+returns-then-is_meant c = (
   c.touch_seat.ensures.0,
   only-meant c.args.start.now (pick c.args.side c.args.incoming.now c.args.file.now) c.args.plan.slash c.args.plan.instances c.args.entries.now c.args.row
       c.args.instance c.args.celltype.now c.args.arcs.now c.args.flags.now c.args.count c.find_seat-seat.result (rw c.head_at-entry.ensures at (c.find_seat-seat.ensures c.args.celltype.now)) _ c.if-seat-count.true c.requires.6
@@ -23,8 +22,7 @@ returns-then-is_meant c =
 )
 
 pub returns-else-is_meant : goal.returns-else-is_meant
-returns-else-is_meant c =
-    (
+returns-else-is_meant c = (
   refl,
   only_unmeant c.args.start.now (pick c.args.side c.args.incoming.now c.args.file.now) c.args.plan.slash c.args.plan.instances c.args.entries.now c.args.row
       c.args.instance c.args.celltype.now c.args.arcs.now c.args.flags.now c.args.count c.find_seat-seat.result (rw c.head_at-entry.ensures at (c.find_seat-seat.ensures c.args.celltype.now))
@@ -32,9 +30,8 @@ returns-else-is_meant c =
 )
 
 pub returns-else-seat-count : goal.returns-else-seat-count
-returns-else-seat-count c =
-    (
-      refl,
-      only_unmeant c.args.start.now (pick c.args.side c.args.incoming.now c.args.file.now) c.args.plan.slash c.args.plan.instances c.args.entries.now c.args.row
-          c.args.instance c.args.celltype.now c.args.arcs.now c.args.flags.now c.args.count c.find_seat-seat.result (rw c.head_at-entry.ensures at (c.find_seat-seat.ensures c.args.celltype.now)) (λ h. absurd (omega arith)),
-    )
+returns-else-seat-count c = (
+  refl,
+  only_unmeant c.args.start.now (pick c.args.side c.args.incoming.now c.args.file.now) c.args.plan.slash c.args.plan.instances c.args.entries.now c.args.row
+      c.args.instance c.args.celltype.now c.args.arcs.now c.args.flags.now c.args.count c.find_seat-seat.result (rw c.head_at-entry.ensures at (c.find_seat-seat.ensures c.args.celltype.now)) (λ h. absurd (omega arith)),
+)

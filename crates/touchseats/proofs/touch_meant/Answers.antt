@@ -1,7 +1,6 @@
 -- `touchseats::touch_meant` meets its contract. Invariant: the first i seats have their flags.
-use mathlib.Core.Path.{◌≡◌, refl, sym, ◌∙◌, ap}
+use mathlib.Core.Path.{◌≡◌, refl, sym, ◌∙◌}
 use native.Mathlib.Omega.{arith}
-use lib.ListN.{length}
 use Rattle.classes.specs.Choice.{pick}
 use Rattle.findseat.specs.Laws.{order_there}
 use Rattle.touchseats.specs.Laws.{seats_none, seat-meant, seat_unmeant}
@@ -35,18 +34,21 @@ loop-i-smaller c = omega (arith, c.loop-i-test.true)
 pub loop-i-preserved : goal.loop-i-preserved
 loop-i-preserved c =
     let text = pick c.args.side c.args.incoming.now c.args.file.now in
-    elim c.if-is_meant.branch [ then-is_meant w ↦ (
-      omega (arith, c.loop-i-test.true),
-      c.if-is_meant.auto.flags ∙ c.loop-i.invariant.1,
-      seat-meant c.args.start.now text c.args.plan.slash c.args.plan.instances c.args.entries.now c.args.row c.args.whom c.args.celltype.now c.args.arcs.now
-          c.args.flags.now c.loop-i.i c.loop-i.flags _ (omega (arith, c.loop-i-test.true, c.requires.6, c.loop-i.invariant.1))
-          (rw (← c.head_at-entry.ensures) (sym c.is_meant.ensures ∙ w.if-is_meant.true)) (w.flags-is ∙ w.touch_seat.ensures.1) c.loop-i.invariant.2,
-    ) | else-is_meant w ↦ (
-      omega (arith, c.loop-i-test.true),
-      c.if-is_meant.auto.flags ∙ c.loop-i.invariant.1,
-      seat_unmeant c.args.start.now text c.args.plan.slash c.args.plan.instances c.args.entries.now c.args.row c.args.whom c.args.celltype.now c.args.arcs.now
-          c.args.flags.now c.loop-i.i c.loop-i.flags _ (rw (← c.head_at-entry.ensures) (sym c.is_meant.ensures ∙ w.if-is_meant.false)) w.flags-is c.loop-i.invariant.2,
-    ) ]
+    elim c.if-is_meant.branch [
+      | then-is_meant w ↦ (
+        omega (arith, c.loop-i-test.true),
+        c.if-is_meant.auto.flags ∙ c.loop-i.invariant.1,
+        seat-meant c.args.start.now text c.args.plan.slash c.args.plan.instances c.args.entries.now c.args.row c.args.whom c.args.celltype.now c.args.arcs.now
+            c.args.flags.now c.loop-i.i c.loop-i.flags _ (omega (arith, c.loop-i-test.true, c.requires.6, c.loop-i.invariant.1))
+            (rw (← c.head_at-entry.ensures) (sym c.is_meant.ensures ∙ w.if-is_meant.true)) (w.flags-is ∙ w.touch_seat.ensures.1) c.loop-i.invariant.2,
+      )
+      | else-is_meant w ↦ (
+        omega (arith, c.loop-i-test.true),
+        c.if-is_meant.auto.flags ∙ c.loop-i.invariant.1,
+        seat_unmeant c.args.start.now text c.args.plan.slash c.args.plan.instances c.args.entries.now c.args.row c.args.whom c.args.celltype.now c.args.arcs.now
+            c.args.flags.now c.loop-i.i c.loop-i.flags _ (rw (← c.head_at-entry.ensures) (sym c.is_meant.ensures ∙ w.if-is_meant.false)) w.flags-is c.loop-i.invariant.2,
+      )
+    ]
 
 pub shape_of-flags : goal.shape_of-flags
 shape_of-flags c = c.loop-i.invariant.1

@@ -26,13 +26,12 @@ pub touch_entry-requires : goal.touch_entry-requires
 touch_entry-requires c = (c.requires.0, c.requires.1, c.requires.2, c.requires.3, omega (arith, c.loop-k-test.true, c.requires.4), c.requires.5, omega (arith, c.requires.6, c.loop-k.invariant.1))
 
 pub loop-k-preserved : goal.loop-k-preserved
-loop-k-preserved c =
-    (
-      omega (arith, c.loop-k-test.true),
-      c.touch_entry.ensures.0 ∙ c.loop-k.invariant.1,
-      entries_more c.args.start.now (pick c.args.side c.args.incoming.now c.args.file.now) c.args.plan.slash c.args.plan.instances c.args.entries.now c.args.first
-          c.args.whom c.args.celltype.now c.args.arcs.now c.args.flags.now c.args.count c.loop-k.k c.loop-k.flags _ c.touch_entry.ensures.1 c.loop-k.invariant.2,
-    )
+loop-k-preserved c = (
+  omega (arith, c.loop-k-test.true),
+  c.touch_entry.ensures.0 ∙ c.loop-k.invariant.1,
+  entries_more c.args.start.now (pick c.args.side c.args.incoming.now c.args.file.now) c.args.plan.slash c.args.plan.instances c.args.entries.now c.args.first
+      c.args.whom c.args.celltype.now c.args.arcs.now c.args.flags.now c.args.count c.loop-k.k c.loop-k.flags _ c.touch_entry.ensures.1 c.loop-k.invariant.2,
+)
 
 pub shape_of-flags : goal.shape_of-flags
 shape_of-flags c = c.loop-k.invariant.1

@@ -27,12 +27,11 @@ pub loop-i-smaller : goal.loop-i-smaller
 loop-i-smaller c = omega arith
 
 pub loop-i-preserved : goal.loop-i-preserved
-loop-i-preserved c =
-    (
-      omega arith,
-      packed_grows c.loop-i.code c.wide.result c.loop-i.i c.loop-i.invariant.1 (omega (arith, c.shared_slice_known-1.given c.loop-i.i)),
-      rw c.wide.ensures (sym (packed_turn c.loop-i.code c.loop-i.i c.args.word.now c.loop-i-test.true) ∙ c.loop-i.invariant.2),
-    )
+loop-i-preserved c = (
+  omega arith,
+  packed_grows c.loop-i.code c.wide.result c.loop-i.i c.loop-i.invariant.1 (omega (arith, c.shared_slice_known-1.given c.loop-i.i)),
+  rw c.wide.ensures (sym (packed_turn c.loop-i.code c.loop-i.i c.args.word.now c.loop-i-test.true) ∙ c.loop-i.invariant.2),
+)
 
 pub returns : goal.returns
 returns c =
