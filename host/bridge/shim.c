@@ -1,5 +1,5 @@
 /* The library's functions for a machine that is not x86-64: each call goes to the server, which has the proved ones and
- * runs under the toolchain's emulator. `build` says where the two are: EMULATOR and SERVER.
+ * runs under an emulator. `build` says where the two are: EMULATOR and SERVER.
  */
 #define _GNU_SOURCE
 #include <fcntl.h>

@@ -1,5 +1,5 @@
-//! Links the static library that `rt staticlib boomcrutch` writes at the repository's root, or the one in the folder
-//! that BOOMCRUTCH_LIB names.
+//! Links the static library that `host/library` writes below the repository's root, or the one in the folder that
+//! BOOMCRUTCH_LIB names.
 use std::path::{Path, PathBuf};
 
 fn main() {
@@ -9,7 +9,7 @@ fn main() {
     let archive = folder.join("libboomcrutch.a");
     println!("cargo:rerun-if-changed={}", archive.display());
     if !archive.exists() {
-        println!("cargo::error={} is missing: run `rt staticlib boomcrutch` first", archive.display());
+        println!("cargo::error={} is missing: run `host/library` first", archive.display());
     }
     println!("cargo:rustc-link-search=native={}", folder.display());
     println!("cargo:rustc-link-lib=static=boomcrutch");
