@@ -8,10 +8,10 @@ use Rattle.classes.specs.Choice.{or}
 use Rattle.grammar.specs.Reading.{At}
 use Rattle.sheetlaws.specs.Sheet.{Sheet}
 use Rattle.history.specs.Events.{Value, Supply, nothing, replace, add, holds, step, next, history, Event, sheet, any_of, supplied, supply}
-use Rattle.history.specs.EventLaws.{clash, holds_inj}
+use Rattle.history.proofs.EventLaws.{clash, holds_inj}
 use Rattle.history.specs.Sheet.{Slot, Values, file_events}
 use Rattle.history.specs.Sheet as history
-use Rattle.history.specs.Demands.{demand_2}
+use Rattle.history.proofs.Demands.{demand_2}
 use Rattle.slots.specs.Slots.{records_of, values_of}
 use Rattle.meaning.specs.declared.Annotated.{Annotated}
 use Rattle.meaning.specs.Meaning.{said, Course, AnnotateIs}

@@ -22,7 +22,7 @@ use Rattle.sheetlaws.specs.Sheet.{decode}
 use Rattle.history.specs.Events.{Answer, sheet, refused, folded}
 use Rattle.history.specs.Sheet.{Slot, file_events, slots_of}
 use Rattle.history.specs.Sheet as history
-use Rattle.history.specs.SheetLaws.{annotate-by_entries}
+use Rattle.history.proofs.SheetLaws.{annotate-by_entries}
 use Rattle.slots.specs.Slots.{records_of, values_of, sheet_at}
 use Rattle.slots.specs.Spelled.{start}
 use Rattle.slots.specs.Shapes.{values_in_range}

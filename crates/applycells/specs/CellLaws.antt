@@ -21,7 +21,7 @@ use Rattle.sheet.specs.declared.Found.{Found}
 use Rattle.sheet.specs.declared.Found.TheVariants.{At, Nothing}
 use Rattle.views.specs.Views.{cell_at}
 use Rattle.history.specs.Events.{nothing, step, final, fails_with, Event, any_of, or_else, when, stuck, judge, folded}
-use Rattle.history.specs.EventLaws.{fold_step}
+use Rattle.history.proofs.EventLaws.{fold_step}
 use Rattle.history.specs.Sheet.{slots_of, Slot, Values, Cell, at, cell_number, cell_event, events, file_events, each}
 use Rattle.applying.specs.Says.{cell_of, cells_of, part_at, name_at}
 use Rattle.applying.specs.Rows.{cell-is}

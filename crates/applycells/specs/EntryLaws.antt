@@ -14,7 +14,7 @@ use Rattle.sheetparts.specs.Form.{check_of}
 use Rattle.sheetparts.specs.declared.SheetCheck.TheVariants.{Good}
 use Rattle.tables.specs.Layout.{entry_row}
 use Rattle.history.specs.Events.{Event, judge, step, final}
-use Rattle.history.specs.EventLaws.{fold_step, fold-stop}
+use Rattle.history.proofs.EventLaws.{fold_step, fold-stop}
 use Rattle.history.specs.Sheet.{Slot, Values, Cell, entry_event, slots_of}
 use Rattle.applying.specs.Says.{entry_of}
 use Rattle.applying.specs.Judged.{refusal_of, numbered, judged}

@@ -9,7 +9,7 @@ use Rattle.classes.specs.Choice.{pick, and, or}
 use Rattle.amounts.specs.Amounts.{lesser}
 use Rattle.amounts.specs.Laws.{first_of, lesser-first}
 use Rattle.history.specs.Events.{any_of}
-use Rattle.history.specs.EventLaws.{clash, some_inj}
+use Rattle.history.proofs.EventLaws.{clash, some_inj}
 use Rattle.history.specs.Sheet.{below}
 use Rattle.applying.specs.Judged.{any_below}
 use Rattle.applying.specs.Bytes.{some_of, least_of}

@@ -16,9 +16,9 @@ use Rattle.sheetparts.specs.declared.SheetCheck.TheVariants.{Good}
 use Rattle.sheetlaws.specs.Sheet.{place}
 use Rattle.grammar.specs.Meaning.{Item}
 use Rattle.history.specs.Events.{any_of, final, step}
-use Rattle.history.specs.EventLaws.{clash}
+use Rattle.history.proofs.EventLaws.{clash}
 use Rattle.history.specs.Sheet.{Instance, Key, Slot, Values, Entry, at, every, Cell, applies, lacks, ends_at, matches, below, arc_slots, each}
-use Rattle.history.specs.Addressing.{matches-path}
+use Rattle.history.proofs.Addressing.{matches-path}
 use Rattle.slots.specs.Slots.{as_key, spelled, sheet_at}
 use Rattle.slots.specs.Found.{instance_once}
 use Rattle.amounts.specs.Amounts.{lesser}

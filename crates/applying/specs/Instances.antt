@@ -19,10 +19,10 @@ use Rattle.sheet.specs.Find.{second_wanted, wanted, arc-found, arc_absent}
 use Rattle.sheet.specs.declared.Found.{Found}
 use Rattle.sheet.specs.declared.Found.TheVariants.{At, Nothing}
 use Rattle.grammar.specs.Meaning.{Item}
-use Rattle.history.specs.Ranges.{InRange}
+use Rattle.history.proofs.Ranges.{InRange}
 use Rattle.history.specs.Events.{any_of}
 use Rattle.history.specs.Sheet.{Key, Records, Slot, Values, Entry, end_name, ends_at, matches, below}
-use Rattle.history.specs.Addressing.{matches-key}
+use Rattle.history.proofs.Addressing.{matches-key}
 use Rattle.slots.specs.Slots.{as_key, records_of, spelled, sheet_at}
 use Rattle.slots.specs.Found.{arc-at, arcs_length, arc_once}
 use Rattle.amounts.specs.Amounts.{arc_refusal, arc_written}

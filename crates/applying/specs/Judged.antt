@@ -9,7 +9,7 @@ use Rattle.std.proofs.Math.ListN.{get_elem?}
 use Rattle.classes.specs.Choice.{pick, and, or}
 use Rattle.amounts.specs.Laws.{first_of}
 use Rattle.history.specs.Events.{Value, Supply, nothing, fails_with, step, final, any_of, when, or_else, stuck, judge}
-use Rattle.history.specs.EventLaws.{any_cong}
+use Rattle.history.proofs.EventLaws.{any_cong}
 use Rattle.history.specs.Sheet.{Instance, Key, Records, Slot, Values, Entry, Cell, each, matches, applies, addresses, lacks, given, if_arc, giving, amount, rows, entry_event, below, arc_slots, slots_of}
 
 -- 0 is no number

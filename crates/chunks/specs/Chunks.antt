@@ -11,9 +11,9 @@ use Rattle.std.proofs.Math.Numerals.{add-one}
 use Rattle.std.proofs.Math.ListN.{length, length-append}
 use Rattle.classes.specs.Choice.{pick}
 use Rattle.sheetlaws.specs.Sheet.{place}
-use Rattle.history.specs.EventLaws.{clash, none≢some}
-use Rattle.history.specs.Faults.{Fault}
-use Rattle.history.specs.Scan.{better, own_fault}
+use Rattle.history.proofs.EventLaws.{clash, none≢some}
+use Rattle.history.proofs.Faults.{Fault}
+use Rattle.history.proofs.Scan.{better, own_fault}
 use Rattle.history.specs.Sheet.{arc_slots}
 use Rattle.slots.specs.Slots.{values_of, sheet_at}
 use Rattle.meaning.specs.declared.Whom.{Whom}
@@ -25,7 +25,7 @@ use Rattle.marking.specs.Parts.{part_no}
 use Rattle.swaparcs.specs.declared.Swap.{Swap}
 use Rattle.swaparcs.specs.Swap.{news, touched, LeastIs}
 use Rattle.swaparcs.specs.Loops.{better_of, is_fault, SwapReady, ArcsRan, ArcsWritten}
-use Rattle.swaparcs.specs.ArcLaws.{better-is, none-set, flags_both, ArcsSoFar, arcs_more, arcs_pass, arcs_end, WrittenSoFar, written-more, written_pass, written_end}
+use Rattle.swaparcs.proofs.ArcLaws.{better-is, none-set, flags_both, ArcsSoFar, arcs_more, arcs_pass, arcs_end, WrittenSoFar, written-more, written_pass, written_end}
 use Rattle.marking.specs.Choosing.{marked_at, Chose}
 use Rattle.marking.specs.Chosen.{chosen, chosen_in, chosen_has}
 use Rattle.seating.specs.Seating as seating

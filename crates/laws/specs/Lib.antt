@@ -4,11 +4,5 @@ pub mod Stops
 pub mod Bytes
 pub mod Taken
 pub mod Phases
-pub mod Judged
-pub mod Behind
-pub mod Log
-pub mod Counts
-pub mod Exactly
 pub mod Holds
-pub mod Least
 pub mod Examples

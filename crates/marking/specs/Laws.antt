@@ -14,7 +14,7 @@ use Rattle.sheet.specs.Find.{ArcsGood}
 use Rattle.sheet.specs.declared.Found.TheVariants.{At, Nothing}
 use Rattle.grammar.specs.declared.Entry.{Entry}
 use Rattle.views.specs.Views.{head_at}
-use Rattle.history.specs.EventLaws.{clash}
+use Rattle.history.proofs.EventLaws.{clash}
 use Rattle.applying.specs.Bytes.{arc_of}
 use Rattle.meaning.specs.declared.Whom.{Whom}
 use Rattle.meaning.specs.declared.Whom.TheVariants.{One, Nobody}

@@ -17,7 +17,7 @@ use Rattle.sheetlaws.specs.Sheet.{in_end, nth}
 use Rattle.sheet.specs.Search.{search-more, finger}
 use Rattle.sheet.specs.Find.{wanted, key-same, find_instance, instance-found, InsGood, ins_rise}
 use Rattle.sheet.specs.declared.Found.TheVariants.{At, Nothing}
-use Rattle.history.specs.EventLaws.{clash}
+use Rattle.history.proofs.EventLaws.{clash}
 use Rattle.applying.specs.Bytes.{device_hit}
 use Rattle.applying.specs.Below.{not_so, below_none, below-some, some_any}
 use Rattle.patching.specs.Meant.{meant_in, meant_every}

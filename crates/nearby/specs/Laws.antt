@@ -15,7 +15,7 @@ use Rattle.names.specs.Name.{canon, canon_from, turned, part_of, both}
 use Rattle.sheetparts.specs.Form.{Key, key_at, path_at, type_at, cmp_key}
 use Rattle.sheetlaws.specs.Sheet.{in_end, nth}
 use Rattle.views.specs.Views.{cell_at, head_at}
-use Rattle.history.specs.EventLaws.{clash}
+use Rattle.history.proofs.EventLaws.{clash}
 use Rattle.meaning.specs.Cells.{entries_before}
 use Rattle.grammar.specs.declared.Entry.{Entry}
 use Rattle.sheet.specs.Find.{wanted, key-same}

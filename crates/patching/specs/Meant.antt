@@ -21,9 +21,9 @@ use Rattle.grammar.specs.declared.Entry as read-entry
 use Rattle.grammar.specs.declared.Cell as read_cell
 use Rattle.grammar.specs.Meaning.{Item}
 use Rattle.history.specs.Sheet.{Instance, Key, Records, Values, Entry, Cell, at, every, end_name, ends_at, matches, part_is, applies, addresses, lacks, cell_number}
-use Rattle.history.specs.Addressing.{matches-key}
+use Rattle.history.proofs.Addressing.{matches-key}
 use Rattle.history.specs.Events.{any_of}
-use Rattle.history.specs.EventLaws.{clash, any_none, any_false, none≢some}
+use Rattle.history.proofs.EventLaws.{clash, any_none, any_false, none≢some}
 use Rattle.slots.specs.Slots.{as_key}
 use Rattle.amounts.specs.Laws.{first_of}
 use Rattle.applying.specs.Says.{name_at, entry_of, part_at, cell_of}

@@ -16,7 +16,7 @@ use Rattle.sheetparts.specs.declared.SheetCheck.TheVariants as check
 use Rattle.sheet.specs.Same.{same_records}
 use Rattle.cellrecords.specs.Records.{records_of}
 use Rattle.readrecords.specs.Reading.{room_for, records_left}
-use Rattle.readrecords.specs.ReadingLaws.{Sounds, left_is, fit_of, part_left}
+use Rattle.readrecords.proofs.ReadingLaws.{Sounds, left_is, fit_of, part_left}
 use Rattle.patch.specs.declared.Counted.{Counted}
 use Rattle.patch.specs.Meaning.{Course, unfit, unread, nonumber, unread_cell, judged, by_cell, by_file, by_sheet, course, file_table, cell_table}
 use Rattle.patch.specs.Counted.{cells_read, CountedIs}

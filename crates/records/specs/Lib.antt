@@ -1,2 +1,1 @@
 pub mod Annotating
-pub mod AnnotatingLaws

@@ -9,7 +9,7 @@ use Rattle.std.proofs.Math.Seq.{paste, append_snoc}
 use Rattle.std.proofs.lemmas.Bool.{eqb-false}
 use Rattle.sheetparts.specs.Form.{values_at}
 use Rattle.sheetlaws.specs.Sheet.{ar_next, place}
-use Rattle.history.specs.EventLaws.{clash}
+use Rattle.history.proofs.EventLaws.{clash}
 use Rattle.views.specs.Views.{head_at}
 use Rattle.meaning.specs.declared.Whom.{Whom}
 use Rattle.patching.specs.Scratch.{back_written}
@@ -21,8 +21,8 @@ use Rattle.marking.specs.Parts.{part_own, part_other}
 use Rattle.swaparcs.specs.declared.Swap.{Swap}
 use Rattle.arcrun.specs.Run.{CellsRan}
 use Rattle.swaparcs.specs.Loops.{any_set, is_fault, SwapReady, ArcRan}
-use Rattle.swaparcs.specs.ArcLaws.{arc_ran_before, arc_ran_own, arc_ran_behind}
-use Rattle.swaparcs.specs.ArcLate.{arc_late_before, arc_late_own, arc_late_behind}
+use Rattle.swaparcs.proofs.ArcLaws.{arc_ran_before, arc_ran_own, arc_ran_behind}
+use Rattle.swaparcs.proofs.ArcLate.{arc_late_before, arc_late_own, arc_late_behind}
 use Rattle.marking.specs.Choosing.{marked}
 use Rattle.nearby.specs.Seats.{SeatsRan, CellsSeatsRan}
 use Rattle.seating.specs.Seating.{StatesLoaded, backs, FrontRan, SeatsThrough, MarksCover, FlagsSeated}

@@ -67,9 +67,9 @@ use Rattle.grammar.specs.Outcome.{Stack, read_cell_of}
 use Rattle.laws.specs.Walk.{some_inj}
 use Rattle.laws.specs.Sides.{a_cell}
 use Rattle.laws.specs.Taken.{as_cell, starting, cell-is, Taken, tells, opens_cell, cell_words}
-use Rattle.laws.specs.Judged.{pick_fine}
-use Rattle.laws.specs.Behind.{then_fine, Fed, fed, fed_uncons}
-use Rattle.laws.specs.Exactly.{follows, says}
+use Rattle.laws.proofs.Judged.{pick_fine}
+use Rattle.laws.proofs.Behind.{then_fine, Fed, fed, fed_uncons}
+use Rattle.laws.proofs.Exactly.{follows, says}
 use Rattle.sound.specs.Coming.{passes, agree, taken-passes}
 
 -- behind a cell's keyword: no cell more, and nothing of the header

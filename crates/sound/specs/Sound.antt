@@ -82,9 +82,9 @@ use Rattle.laws.specs.Walk.{through, along_inv, kept_if, some_inj}
 use Rattle.laws.specs.Sides.{Whole, a_file, a_cell}
 use Rattle.laws.specs.Taken.{As, as_file, as_cell, starting, read_as_of, file-is, cell-is, Taken, terms, toks, tells}
 use Rattle.laws.specs.Phases.{leaves, turns, proper, moves, every, from, to, closed-off}
-use Rattle.laws.specs.Judged.{pick_fine}
-use Rattle.laws.specs.Behind.{then_fine, Fed, fed, fed_uncons}
-use Rattle.laws.specs.Exactly.{follows, says}
+use Rattle.laws.proofs.Judged.{pick_fine}
+use Rattle.laws.proofs.Behind.{then_fine, Fed, fed, fed_uncons}
+use Rattle.laws.proofs.Exactly.{follows, says}
 use Rattle.sound.specs.Groups.{grouped, all_grouped, whole-grouped, taken-grouped}
 
 -- every element of a list

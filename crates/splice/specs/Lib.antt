@@ -1,16 +1,3 @@
-pub mod Along
 pub mod Swap
-pub mod Phases
 pub mod Moved
-pub mod OneCell
-pub mod Blocks
-pub mod Several
-pub mod Shape
-pub mod Front
 pub mod Span
-pub mod Carried
-pub mod Near
-pub mod Parts
-pub mod Names
-pub mod Splice
-pub mod Examples

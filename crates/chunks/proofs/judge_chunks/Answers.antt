@@ -4,7 +4,7 @@ use native.Mathlib.Omega.{arith}
 use borrow.Author.Rules.{rules}
 use Rattle.sheetlaws.specs.Sheet.{place, nth}
 use Rattle.touchseats.specs.Laws.{chosen_order}
-use Rattle.swaparcs.specs.ArcLaws.{arcs_none, arcs_end}
+use Rattle.swaparcs.proofs.ArcLaws.{arcs_none, arcs_end}
 use Rattle.chunks.specs.Chunks.{part-judged}
 use Rattle.chunks.proofs.judge_chunks.Goals as goal
 

@@ -3,7 +3,7 @@ use Prim.Native.Nat.{◌-◌, ◌≤◌}
 use mathlib.Core.Path.{◌≡◌}
 use lib.ListN.{length}
 use Rattle.sheetlaws.specs.Sheet.{place}
-use Rattle.swaparcs.specs.ArcLaws.{ArcsSoFar}
+use Rattle.swaparcs.proofs.ArcLaws.{ArcsSoFar}
 use Rattle.chunks.proofs.judge_chunks.Given as goal
 
 abbrev pub invariant-loop-j : goal.invariant-loop-j

@@ -5,7 +5,7 @@ use borrow.Author.Rules.{rules}
 use Rattle.sheetlaws.specs.Sheet.{place, nth}
 use Rattle.findseat.specs.Laws.{order_there}
 use Rattle.touchseats.specs.Laws.{chosen_order}
-use Rattle.swaparcs.specs.ArcLaws.{written_none, written_end}
+use Rattle.swaparcs.proofs.ArcLaws.{written_none, written_end}
 use Rattle.chunks.specs.Chunks.{part-written}
 use Rattle.chunks.proofs.write_chunks.Goals as goal
 

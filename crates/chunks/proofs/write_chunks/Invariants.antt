@@ -3,7 +3,7 @@ use Prim.Native.Nat.{◌-◌, ◌≤◌}
 use mathlib.Core.Path.{◌≡◌}
 use lib.ListN.{length}
 use Rattle.sheetlaws.specs.Sheet.{place}
-use Rattle.swaparcs.specs.ArcLaws.{WrittenSoFar}
+use Rattle.swaparcs.proofs.ArcLaws.{WrittenSoFar}
 use Rattle.chunks.proofs.write_chunks.Given as goal
 
 abbrev pub invariant-loop-j : goal.invariant-loop-j

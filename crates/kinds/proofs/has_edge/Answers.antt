@@ -1,5 +1,5 @@
 -- `kinds::has_edge` meets its contract.
-use Rattle.kinds.specs.Kinds.{edge_rule_lem}
+use Rattle.kinds.proofs.KindLaws.{edge_rule_lem}
 use borrow.Author.Tests.{eq-eqb, ne_eqb}
 use Rattle.kinds.specs.Kinds.{edge_rule}
 use borrow.Author.Rules.{rules}

@@ -1,5 +1,5 @@
 -- `kinds::has_second` meets its contract.
-use Rattle.kinds.specs.Kinds.{second_rule_lem}
+use Rattle.kinds.proofs.KindLaws.{second_rule_lem}
 use borrow.Author.Tests.{eq-eqb, ne_eqb}
 use Rattle.kinds.specs.Kinds.{second_rule}
 use borrow.Author.Rules.{rules}

@@ -1,5 +1,5 @@
 -- `kinds::is_kind` meets its contract.
-use Rattle.kinds.specs.Kinds.{known_rule_lem}
+use Rattle.kinds.proofs.KindLaws.{known_rule_lem}
 use Rattle.kinds.specs.Kinds.{known_rule}
 use borrow.Author.Rules.{rules}
 use Rattle.kinds.proofs.is_kind.Goals as goal

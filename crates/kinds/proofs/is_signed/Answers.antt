@@ -1,5 +1,5 @@
 -- `kinds::is_signed` meets its contract.
-use Rattle.kinds.specs.Kinds.{signed_rule_lem}
+use Rattle.kinds.proofs.KindLaws.{signed_rule_lem}
 use borrow.Author.Tests.{eq-eqb, ne_eqb}
 use Rattle.kinds.specs.Kinds.{signed_rule}
 use borrow.Author.Rules.{rules}

@@ -1,5 +1,5 @@
 -- `kinds::rows_of` meets its contract.
-use Rattle.kinds.specs.Kinds.{rows_rule_lem}
+use Rattle.kinds.proofs.KindLaws.{rows_rule_lem}
 use borrow.Author.Tests.{eq-eqb, ne_eqb}
 use Rattle.kinds.specs.Kinds.{rows_rule}
 use borrow.Author.Rules.{rules}

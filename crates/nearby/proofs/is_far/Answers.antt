@@ -1,7 +1,7 @@
 -- `nearby::is_far` meets its contract.
 use borrow.Author.Tests.{ne_eqb}
 use Rattle.names.specs.Name.{name_of_it}
-use Rattle.history.specs.EventLaws.{clash}
+use Rattle.history.proofs.EventLaws.{clash}
 use Rattle.nearby.specs.Laws.{unless}
 use Rattle.nearby.proofs.is_far.Goals as goal
 

@@ -2,7 +2,7 @@
 use mathlib.Core.Path.{◌≡◌, sym, ◌∙◌}
 use native.Mathlib.Omega.{arith}
 use borrow.Author.Tests.{ne_eqb}
-use Rattle.history.specs.EventLaws.{clash}
+use Rattle.history.proofs.EventLaws.{clash}
 use Rattle.nearby.specs.Laws.{one_more}
 use Rattle.nearby.proofs.is_near.Goals as goal
 

@@ -1,7 +1,7 @@
 -- `nearby::is_wanted` meets its contract. Invariant: the kind fits none of the first i arcs.
 use mathlib.Core.Path.{◌≡◌, sym, ◌∙◌}
 use native.Mathlib.Omega.{arith}
-use Rattle.history.specs.EventLaws.{clash}
+use Rattle.history.proofs.EventLaws.{clash}
 use Rattle.nearby.specs.Laws.{one_more}
 use Rattle.nearby.proofs.is_wanted.Goals as goal
 

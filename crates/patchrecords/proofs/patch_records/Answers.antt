@@ -1,6 +1,6 @@
 -- `patchrecords::patch_records` meets its contract: each table has a row for each cell that was read of its text, and the fills put these rows
 -- into the records.
-use Rattle.std.proofs.Common.{◌≡◌, ◌*◌, ◌/◌, ◌≤◌, length, arith}
+use Rattle.std.proofs.Common.{◌≡◌, ◌/◌, length, arith}
 use Rattle.readrecords.specs.Reading.{room_for}
 use Rattle.patch.specs.Meaning.{course}
 use Rattle.patchwithin.specs.PatchingLaws.{file-rows, cell-rows, patched_records}

@@ -1,7 +1,7 @@
 -- `readrecords::read_cell_within` meets its contract.
 use Rattle.std.proofs.Common.{◌*◌, ◌/◌, ◌≤◌, ◌≡◌, sym, arith, length, take, length-take-le, rules}
 use Rattle.grammar.specs.Outcome.{read_cell_of}
-use Rattle.readrecords.specs.ReadingLaws.{within-part, within-whole}
+use Rattle.readrecords.proofs.ReadingLaws.{within-part, within-whole}
 use Rattle.readrecords.proofs.read_cell_within.Goals as goal
 
 pub slice_bounds-read_cell-end-then-room-table : goal.slice_bounds-read_cell-end-then-room-table

@@ -3,7 +3,7 @@ use Rattle.std.proofs.Common.{◌≡◌, ◌/◌, length, arith}
 use Rattle.grammar.specs.Outcome.{read_file}
 use Rattle.sound.specs.Sound.{read_sound}
 use Rattle.readrecords.specs.Reading.{room_for, count_of}
-use Rattle.readrecords.specs.ReadingLaws.{records-are, rows_fit}
+use Rattle.readrecords.proofs.ReadingLaws.{records-are, rows_fit}
 use Rattle.readrecords.proofs.read_file_records.Goals as goal
 
 pub fill_records-requires : goal.fill_records-requires

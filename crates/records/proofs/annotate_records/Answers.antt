@@ -1,8 +1,8 @@
 -- `records::annotate_records` meets its contract: the table has a row for each cell that was read, and the fill puts these rows into the records.
-use Rattle.std.proofs.Common.{◌≡◌, ◌*◌, ◌/◌, ◌≤◌, length, arith}
+use Rattle.std.proofs.Common.{◌≡◌, ◌/◌, length, arith}
 use Rattle.meaning.specs.Meaning.{course}
 use Rattle.readrecords.specs.Reading.{room_for}
-use Rattle.records.specs.AnnotatingLaws.{records-out, rows_fit_out}
+use Rattle.records.proofs.AnnotatingLaws.{records-out, rows_fit_out}
 use Rattle.records.proofs.annotate_records.Goals as goal
 
 pub fill_records-requires : goal.fill_records-requires

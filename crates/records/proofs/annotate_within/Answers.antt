@@ -1,6 +1,6 @@
 -- `records::annotate_within` meets its contract.
 use Rattle.std.proofs.Common.{◌*◌, ◌/◌, ◌≤◌, ◌≡◌, sym, arith, length, take, length-take-le, rules}
-use Rattle.records.specs.AnnotatingLaws.{counted_part, counted_whole}
+use Rattle.records.proofs.AnnotatingLaws.{counted_part, counted_whole}
 use Rattle.records.proofs.annotate_within.Goals as goal
 
 pub slice_bounds-annotate_counted-end-then-room-table : goal.slice_bounds-annotate_counted-end-then-room-table

@@ -2,7 +2,7 @@
 use borrow.Author.Rules.{rules}
 use Rattle.sheet.specs.Find.{sheet_good, arcs_ready, instances_ready}
 use Rattle.ownfaults.specs.OwnLaws.{own_least}
-use Rattle.swap.specs.SwapLaws.{MoversAre, movers, swap_answered}
+use Rattle.swap.proofs.SwapLaws.{MoversAre, movers, swap_answered}
 use Rattle.swap.proofs.swap_cell.Goals as goal
 use native.Mathlib.Omega.{arith}
 use Rattle.swaparcs.specs.Turns.{events_fit}

@@ -7,7 +7,7 @@ use borrow.Author.Rules.{rules}
 use Rattle.sheetlaws.specs.Sheet.{nth}
 use Rattle.findseat.specs.Laws.{order_there}
 use Rattle.touchseats.specs.Laws.{chosen_order}
-use Rattle.swaparcs.specs.ArcLaws.{arcs_none, written_none}
+use Rattle.swaparcs.proofs.ArcLaws.{arcs_none, written_none}
 use Rattle.chunks.specs.Chunks.{last_judged, last_written, swapped-done, swapped-stop}
 use Rattle.swapseats.proofs.swap_seated.Goals as goal
 

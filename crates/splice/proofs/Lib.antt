@@ -1,0 +1,16 @@
+pub mod Moved
+pub mod Swap
+pub mod Span
+pub mod Along
+pub mod Blocks
+pub mod Carried
+pub mod Front
+pub mod Names
+pub mod Near
+pub mod OneCell
+pub mod Parts
+pub mod Phases
+pub mod Several
+pub mod Shape
+pub mod Splice
+pub mod Examples

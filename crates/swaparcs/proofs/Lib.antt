@@ -1,0 +1,2 @@
+pub mod ArcLaws
+pub mod ArcLate
