@@ -33,8 +33,8 @@ use Rattle.splice.proofs.Several.{each_left, each_right}
 use Rattle.splice.proofs.Near.{SameCell, SameItem}
 use Rattle.splice.proofs.Names.{StandsIn}
 use Rattle.splice.proofs.Shape.{is_header}
-use Rattle.splice.specs.Span.{cell_from, cell_to, taken_of, new_file_of, CellAt, Tail}
-use Rattle.splice.proofs.Span.{taken_is, cell-at, tail_of}
+use Rattle.splice.specs.Span.{cell_from, cell_to, taken_of, new_file_of}
+use Rattle.splice.proofs.Span.{taken_is, CellAt, cell-at, Tail, tail_of}
 use Rattle.splice.proofs.Carried.{incoming, lit-taken}
 use Rattle.splice.proofs.Parts.{old, old_keeps, old_stands, entries_at, behind_token, from1, to1}
 use Rattle.splice.proofs.Splice.{Spliced, splice}

@@ -9,33 +9,7 @@ use Rattle.numbershape.specs.Value.{number_of}
 use Rattle.numbershape.specs.declared.Number.{Number}
 use Rattle.numbershape.specs.declared.Number.TheVariants as number
 use Rattle.grammar.specs.Machine.{fine, bad, fine_inj, bad≢fine, judges}
-use Rattle.grammar.specs.Grammar.{
-  Cls,
-  Note,
-  skip,
-  heading,
-  type,
-  top,
-  named,
-  any,
-  finish,
-  edged,
-  end,
-  plain,
-  empty,
-  all,
-  whole,
-  close,
-  Act,
-  note,
-  divide,
-  scaled,
-  unity,
-  joined,
-  cell,
-  entry,
-  time,
-}
+use Rattle.grammar.specs.Grammar.{Cls, Note, skip, heading, type, top, named, any, finish, edged, end, plain, empty, all, whole, close, Act, note, divide, scaled, unity, joined, cell, entry, time}
 use Rattle.grammar.specs.Grammar as G
 use Rattle.grammar.specs.declared.Cell.{Cell}
 use Rattle.grammar.specs.Meaning.{Item, Log, Book, item_of, noted, overlong, timed, judge, judge_by}

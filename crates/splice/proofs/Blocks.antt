@@ -6,33 +6,7 @@ use mathlib.Core.List.{List, [], ◌∷◌, ◌++◌, append_assoc, nil≢cons}
 use Rattle.std.proofs.Math.Option.{Option, none, some}
 use Rattle.classes.specs.Choice.{pick}
 use Rattle.grammar.specs.Ll.{Sym, lit, non, Alt, Row, Took, choose, onto, feed, feeds, none≢some}
-use Rattle.grammar.specs.Grammar.{
-  text,
-  type,
-  finish,
-  skip,
-  cell,
-  Term,
-  N,
-  header,
-  more,
-  instance,
-  specs,
-  spec,
-  deltypes,
-  checks,
-  opens,
-  closes,
-  key,
-  keyword,
-  cell_tail,
-  ◌!◌,
-  ◌‼◌,
-  ⟨,
-  ⟩,
-  alts,
-  fits,
-}
+use Rattle.grammar.specs.Grammar.{text, type, finish, skip, cell, Term, N, header, more, instance, specs, spec, deltypes, checks, opens, closes, key, keyword, cell_tail, ◌!◌, ◌‼◌, ⟨, ⟩, alts, fits}
 use Rattle.grammar.specs.Outcome.{Stack}
 use Rattle.laws.specs.Walk.{some_inj}
 use Rattle.laws.specs.Taken.{Taken}

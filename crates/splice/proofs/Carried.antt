@@ -18,7 +18,7 @@ use Rattle.splice.proofs.Along.{move_tok}
 use Rattle.splice.proofs.Moved.{move_taken}
 use Rattle.splice.proofs.OneCell.{Block}
 use Rattle.splice.proofs.Blocks.{Takes, took_by, took_left, fed_cons, fed_something}
-use Rattle.splice.specs.Span.{CellAt}
+use Rattle.splice.proofs.Span.{CellAt}
 
 -- two tokens that fit the same terminals are taken alike
 module _ (t t' : Placed) where

@@ -17,7 +17,7 @@ use Rattle.sound.specs.Sound.{Each}
 use Rattle.splice.proofs.Along.{move_tok, Goes, stream-goes, goes-stream, goes-split}
 use Rattle.splice.specs.Swap.{swapped}
 use Rattle.splice.proofs.Moved.{move_cell, move_item}
-use Rattle.splice.specs.Span.{Begins, Tail}
+use Rattle.splice.proofs.Span.{Begins, Tail}
 use Rattle.splice.proofs.Carried.{Incoming}
 use Rattle.splice.proofs.Near.{NearAt, NearCell, NearItem, NearLog, Within, all_near, SameCell, SameItem, cells-move, items_move, cells_stay, items_stay, NearTexts, all_texts, no_texts, SameTexts, texts_stay}
 use Rattle.splice.proofs.Parts.{toks-append}

@@ -17,54 +17,9 @@ use Rattle.numbershape.specs.declared.Number.TheVariants as number
 use Rattle.grammar.specs.declared.Entry.{Entry}
 use Rattle.grammar.specs.declared.Cell.{Cell}
 use Rattle.grammar.specs.Machine.{fine, bad, fine_inj, bad≢fine, judges}
-use Rattle.grammar.specs.Grammar.{
-  Cls,
-  Note,
-  skip,
-  heading,
-  type,
-  top,
-  named,
-  any,
-  finish,
-  edged,
-  end,
-  plain,
-  empty,
-  all,
-  whole,
-  close,
-  Act,
-  note,
-  divide,
-  scaled,
-  unity,
-  joined,
-  cell,
-  entry,
-  time,
-}
+use Rattle.grammar.specs.Grammar.{Cls, Note, skip, heading, type, top, named, any, finish, edged, end, plain, empty, all, whole, close, Act, note, divide, scaled, unity, joined, cell, entry, time}
 use Rattle.grammar.specs.Grammar as G
-use Rattle.grammar.specs.Meaning.{
-  Item,
-  Begun,
-  Log,
-  Book,
-  head_of,
-  headed,
-  celled,
-  cell_of,
-  finished,
-  entered,
-  item_of,
-  edge_put,
-  end_put,
-  noted,
-  overlong,
-  timed,
-  judge,
-  judge_by,
-}
+use Rattle.grammar.specs.Meaning.{Item, Begun, Log, Book, head_of, headed, celled, cell_of, finished, entered, item_of, edge_put, end_put, noted, overlong, timed, judge, judge_by}
 use Rattle.laws.specs.Taken.{Taken, tells}
 use Rattle.laws.proofs.Judged.{pick_fine}
 use Rattle.laws.proofs.Behind.{then_fine}

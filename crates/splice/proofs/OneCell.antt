@@ -20,43 +20,7 @@ use Rattle.grammar.specs.declared.Entry.{Entry}
 use Rattle.grammar.specs.declared.Cell.{Cell}
 use Rattle.grammar.specs.Ll.{none≢some}
 use Rattle.grammar.specs.Machine.{Res, fine, bad, ◌then◌, fine_inj, bad≢fine, judges}
-use Rattle.grammar.specs.Grammar.{
-  Cls,
-  this,
-  text,
-  word,
-  path,
-  port,
-  Note,
-  skip,
-  heading,
-  type,
-  top,
-  named,
-  any,
-  finish,
-  edged,
-  end,
-  plain,
-  empty,
-  all,
-  whole,
-  close,
-  Act,
-  note,
-  divide,
-  scaled,
-  unity,
-  joined,
-  cell,
-  entry,
-  time,
-  Term,
-  cell_tail,
-  opens,
-  key,
-  ◌‼◌,
-}
+use Rattle.grammar.specs.Grammar.{Cls, this, text, word, path, port, Note, skip, heading, type, top, named, any, finish, edged, end, plain, empty, all, whole, close, Act, note, divide, scaled, unity, joined, cell, entry, time, Term, cell_tail, opens, key, ◌‼◌}
 use Rattle.grammar.specs.Grammar as G
 use Rattle.grammar.specs.Meaning.{Item, Begun, Log, Book, nothing, no_head, tidy, valued, pushed, headed, started, item_of, entered, celled, cell_of, finished, edge_put, end_put, edge_of_end, noted, timely, overlong, timed, begins, told, judge, judge_by}
 use Rattle.laws.specs.Walk.{through, along_inv, kept_if, some_inj}

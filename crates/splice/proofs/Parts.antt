@@ -30,8 +30,8 @@ use Rattle.splice.proofs.OneCell.{Stands, Block, Adds, cell-adds}
 use Rattle.splice.proofs.Blocks.{fed_cons, cells_follow}
 use Rattle.splice.proofs.Several.{those-append, count-moved, at_term, each_left, each_right, AddsAll, cells-add}
 use Rattle.splice.proofs.Front.{roomed, read_roomed, tidy_there}
-use Rattle.splice.specs.Span.{cell_from, cell_to, new_file, CellAt, Tail, Begins}
-use Rattle.splice.proofs.Span.{from_at, to_at, outside_there, closes_there, starts-length, no_cell_word}
+use Rattle.splice.specs.Span.{cell_from, cell_to, new_file}
+use Rattle.splice.proofs.Span.{CellAt, Tail, Begins, from_at, to_at, outside_there, closes_there, starts-length, no_cell_word}
 use Rattle.splice.proofs.Carried.{Incoming, new_taken, opener_kind, fed_below, lit-taken}
 
 -- TOKENS IN ORDER: behind a token each starts where that ends or later, and none is empty

@@ -8,46 +8,7 @@ use Rattle.classes.specs.Choice.{pick}
 use Rattle.tokens.specs.Stream.{Placed}
 use Rattle.grammar.specs.Ll.{non, Row, feeds, none≢some}
 use Rattle.grammar.specs.Machine.{fine, fine_inj}
-use Rattle.grammar.specs.Grammar.{ Note,
-use Rattle.splice.specs.Span.{closes_cell, cell_closes, cell_opens_of, stops, cell_from, cell_to, pair_up, taken_by, taken_of, CellAt, inside, one_if, Counted, Tail, Begins}
-
-  skip,
-  heading,
-  type,
-  top,
-  named,
-  any,
-  finish,
-  edged,
-  end,
-  plain,
-  empty,
-  all,
-  whole,
-  close,
-  Act,
-  note,
-  divide,
-  scaled,
-  unity,
-  joined,
-  cell,
-  entry,
-  time,
-  Term,
-  N,
-  header,
-  more,
-  opens,
-  closes,
-  key,
-  ◌‼◌,
-  cell_tail,
-  alts,
-  fits,
-  file,
-  one_cell_of,
-}
+use Rattle.grammar.specs.Grammar.{Note, skip, heading, type, top, named, any, finish, edged, end, plain, empty, all, whole, close, Act, note, divide, scaled, unity, joined, cell, entry, time, Term, N, header, more, opens, closes, key, ◌‼◌, cell_tail, alts, fits, file}
 use Rattle.grammar.specs.Grammar as G
 use Rattle.grammar.specs.Meaning.{Book}
 use Rattle.grammar.specs.Outcome.{Stack}
@@ -59,9 +20,11 @@ use Rattle.laws.proofs.Behind.{Fed, fed, fed_uncons, fed_split, tells-append, th
 use Rattle.laws.proofs.Log.{starts}
 use Rattle.laws.proofs.Exactly.{Follows}
 use Rattle.splice.proofs.Phases.{in_note, in_act, in_moves, in_cell_of, in_cell}
+use Rattle.splice.proofs.OneCell.{Block}
 use Rattle.splice.proofs.Blocks.{Takes, behind-keyword, cell_ends}
 use Rattle.splice.proofs.Several.{those-append}
 use Rattle.splice.proofs.Shape.{is_header, Shaped, Slashed, shape_walks, shape_steps, file_shaped, file_no_header}
+use Rattle.splice.specs.Span.{closes_cell, cell_closes, cell_opens_of, stops, cell_from, cell_to, pair_up, taken_by, taken_of}
 
 pair-up : (xs : List Taken) → pair_up (terms xs) (toks xs) ≡ xs
 pair-up [] = refl
@@ -101,6 +64,25 @@ last_of : (xs : List Taken) → (xs ≡ []) ⊎ ((hs : List Taken) × (o : Taken
 last_of [] = inl refl
 last_of (x ∷ xs) =
     inr (⊎_elim (λ e. ([], x, ap (λ (l : List Taken). x ∷ l) e)) (λ (hs, o, e). (x ∷ hs, o, ap (λ (l : List Taken). x ∷ l) e)) (last_of xs))
+
+-- A CELL OF A FILE: the tokens before it, its own, and those behind it; and what the reading waits for
+pub record CellAt (xs : List Taken) (n : ℕ) (b : Book) : Type 0 where
+  pub hs : List Taken
+  pub o : Taken
+  pub w : Taken
+  pub cs : List Taken
+  pub zs : List Taken
+  pub l : Stack
+  pub k : ℕ
+  pub d : Bool
+  pub split : xs ≡ hs ++ (o ∷ w ∷ (cs ++ zs))
+  pub front : Fed file hs l
+  pub opener : Takes l o (non (header k d) ∷ [])
+  pub keyword : Takes (non (header k d) ∷ []) w (cell_tail d ++ non (more d) ∷ [])
+  pub block : Block d o w cs
+  pub rest : Fed (non (more d) ∷ []) zs []
+  pub number : length (cell_words hs) ≡ n
+  pub slash : (e : Book) → tells b (hs ++ o ∷ []) ≡ fine e → e.slash ≡ d
 
 fed_end : (ss l : Stack) → Fed ss [] l → ss ≡ l
 unfolding feeds
@@ -170,6 +152,16 @@ cell-at xs n b e h s f t =
         there pre w post i j y v c.k c.d (subst (λ (z : Option Bool). Slashed z y.slash) c.divider sl) c.term
         (subst (λ (z : Stack). Fed file pre z) c.before p) (subst (λ (z : Stack). Takes (non (header c.k c.d) ∷ []) w z) c.behind r')
         (subst (λ (z : Stack). Fed z post []) c.behind u)
+
+-- COUNTING: one closing bracket for each keyword, but for the cell in hand
+abbrev inside : ℕ → ℕ
+inside q = pick (eqb q 0) 0 1
+
+abbrev one_if : Bool → ℕ
+one_if v = pick v 1 0
+
+abbrev Counted : Act → ℕ → ℕ → Type 0
+Counted x q p = one_if (closes_cell x) + inside p ≡ one_if (opens_cell x) + inside q
 
 stay : (x : Act) (q p : ℕ) → closes_cell x ≡ false → opens_cell x ≡ false → some q ≡ some p → Counted x q p
 stay x q p a b e = rw (a, b) (ap (λ (z : ℕ). 0 + inside z) (sym (some_inj e)))
@@ -264,6 +256,15 @@ in_counted (x ∷ xs) q p e =
     let k : length (cell_words (x ∷ xs)) ≡ 0 = rw v u in
     (omega arith, k)
 
+-- a cell's tokens behind its keyword: one bracket finishes it, the last
+pub record Tail (cs : List Taken) : Type 0 where
+  pub ms : List Taken
+  pub x : Taken
+  pub split : cs ≡ ms ++ x ∷ []
+  pub last : x.by ≡ closes finish
+  pub closes : cell_closes cs ≡ x.tok ∷ []
+  pub words : length (cell_words cs) ≡ 0
+
 none_of : {A : Type 0} (l : List A) → length l ≡ 0 → l ≡ []
 none_of [] e = refl
 none_of (a ∷ l) e = absurd (omega arith)
@@ -317,6 +318,11 @@ opens_counted x (y ∷ xs) = by (opens_cell y.by.act) (opens_counted y xs)
         length (pick v (x.tok ∷ cell_opens_of (y ∷ xs)) (cell_opens_of (y ∷ xs))) ≡ length (pick v (y.tok ∷ cell_words xs) (cell_words xs))
     by true e = ap suc e
     by false e = e
+
+-- the tokens before the cell begin with a bracket
+abbrev pub Begins : List Taken → Type 0
+Begins [] = Unit {0}
+Begins (x ∷ xs) = x.by ≡ opens
 
 opens_before : (hs : List Taken) (o : Taken) → Begins hs → o.by ≡ opens → length (cell_opens_of (hs ++ o ∷ [])) ≡ length (cell_words hs)
 opens_before [] o b e = refl

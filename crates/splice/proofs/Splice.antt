@@ -22,8 +22,8 @@ use Rattle.splice.proofs.OneCell.{Stands, Adds}
 use Rattle.splice.proofs.Near.{NearCell, NearItem, NearTexts}
 use Rattle.splice.proofs.Names.{Words, Named, named, front-near, front_texts, incoming_near, behind-near, token_inside, behind-cells, same_items, cells-ahead, items_ahead}
 use Rattle.splice.proofs.Several.{count-moved, each_left, each_right}
-use Rattle.splice.specs.Span.{cell_from, cell_to, new_file, taken_of, new_file_of, CellAt, Tail, Begins}
-use Rattle.splice.proofs.Span.{taken_is, cell-at, tail_of}
+use Rattle.splice.specs.Span.{cell_from, cell_to, new_file, taken_of, new_file_of}
+use Rattle.splice.proofs.Span.{taken_is, CellAt, cell-at, Tail, tail_of, Begins}
 use Rattle.splice.proofs.Carried.{Incoming, incoming, new_taken, new_carried}
 use Rattle.splice.proofs.Parts.{Old, old, sizes, old_cell, old_keeps, file-begins, toks-append, toks-new, old_entries, entries_at, NewRun, new-run, those-sum, block_cells, block_entries, total-append, N, q', new_tokens, from1, to1, from2, to2, same-file, old_stands, new_stands}
 

@@ -1,12 +1,16 @@
 -- WHERE A CELL STANDS: from the bracket right before its keyword to the bracket that finishes it. A text that is read, cut there.
 -- Assumes nothing.
-use Rattle.std.specs.Prelude.{◌≡◌, Bool, true, false, List, [], ◌∷◌, ◌++◌, ℕ, ◌+◌, ◌-◌, eqb, length, get_or}
+use Rattle.std.specs.Prelude.{Bool, true, false, List, [], ◌∷◌, ℕ, ◌-◌, get_or}
 use Rattle.std.proofs.Math.Option.{Option, none, some}
 use Rattle.classes.specs.Choice.{pick}
 use Rattle.tokens.specs.Stream.{Placed, stream}
-use Rattle.grammar.specs.Ll.{non, Row, feeds}
-use Rattle.grammar.specs.Machine.{fine}
-use Rattle.grammar.specs.Grammar.{ Note,
+use Rattle.grammar.specs.Ll.{Row, feeds}
+use Rattle.grammar.specs.Grammar.{Note, skip, heading, type, top, named, any, finish, edged, end, plain, empty, all, whole, close, Act, note, divide, scaled, unity, joined, cell, entry, time, Term, N, alts, fits, file, one_cell_of}
+use Rattle.grammar.specs.Grammar as G
+use Rattle.grammar.specs.Outcome.{Stack}
+use Rattle.laws.specs.Taken.{Taken, toks, opens_cell, those}
+use Rattle.laws.proofs.Log.{starts}
+use Rattle.splice.specs.Swap.{swapped}
 
 -- the bracket that finishes a cell
 abbrev pub closes_note : Note → Bool
@@ -83,46 +87,3 @@ taken_of ss s = taken_by (feeds fits alts ss (stream s 0).toks) (stream s 0).tok
 -- THE NEW FILE, from the bytes alone: a file, the number of one of its cells, the file's divider and the incoming text
 unfoldable pub new_file_of : List ℕ → ℕ → Bool → List ℕ → List ℕ
 new_file_of s k slash t = new_file s (taken_of file s) k t (taken_of (one_cell_of slash) t)
-
--- A CELL OF A FILE: the tokens before it, its own, and those behind it; and what the reading waits for
-pub record CellAt (xs : List Taken) (n : ℕ) (b : Book) : Type 0 where
-  pub hs : List Taken
-  pub o : Taken
-  pub w : Taken
-  pub cs : List Taken
-  pub zs : List Taken
-  pub l : Stack
-  pub k : ℕ
-  pub d : Bool
-  pub split : xs ≡ hs ++ (o ∷ w ∷ (cs ++ zs))
-  pub front : Fed file hs l
-  pub opener : Takes l o (non (header k d) ∷ [])
-  pub keyword : Takes (non (header k d) ∷ []) w (cell_tail d ++ non (more d) ∷ [])
-  pub block : Block d o w cs
-  pub rest : Fed (non (more d) ∷ []) zs []
-  pub number : length (cell_words hs) ≡ n
-  pub slash : (e : Book) → tells b (hs ++ o ∷ []) ≡ fine e → e.slash ≡ d
-
--- COUNTING: one closing bracket for each keyword, but for the cell in hand
-abbrev inside : ℕ → ℕ
-inside q = pick (eqb q 0) 0 1
-
-abbrev one_if : Bool → ℕ
-one_if v = pick v 1 0
-
-abbrev Counted : Act → ℕ → ℕ → Type 0
-Counted x q p = one_if (closes_cell x) + inside p ≡ one_if (opens_cell x) + inside q
-
--- a cell's tokens behind its keyword: one bracket finishes it, the last
-pub record Tail (cs : List Taken) : Type 0 where
-  pub ms : List Taken
-  pub x : Taken
-  pub split : cs ≡ ms ++ x ∷ []
-  pub last : x.by ≡ closes finish
-  pub closes : cell_closes cs ≡ x.tok ∷ []
-  pub words : length (cell_words cs) ≡ 0
-
--- the tokens before the cell begin with a bracket
-abbrev pub Begins : List Taken → Type 0
-Begins [] = Unit {0}
-Begins (x ∷ xs) = x.by ≡ opens
