@@ -7,7 +7,7 @@ use Rattle.classes.specs.Choice.{pick}
 use Rattle.findseat.specs.Laws.{order_there}
 use Rattle.nearby.specs.Laws.{seats_unwanted, entries_none, entries_more, entries_stop, entries_end}
 use Rattle.entryseats.proofs.run_entries.Goals as goal
-use Rattle.entryseats.proofs.run_entries.Goals.{then-is_wanted, else-is_wanted}
+use Rattle.entryseats.proofs.run_entries.Goals.{then-is_wanted+else-number-ne0, else-is_wanted}
 
 pub overflow_add-row : goal.overflow_add-row
 overflow_add-row c =
@@ -67,7 +67,7 @@ loop-k-smaller c =
 
 pub loop-k-preserved : goal.loop-k-preserved
 loop-k-preserved c =
-    elim c.if-is_wanted.branch [ then-is_wanted w ↦ (omega (arith, c.loop-k-test.true), c.if-is_wanted.auto.states ∙ c.loop-k.invariant.1, rw (w.states-is, add-one) (entries_more c.args.start.now (pick c.args.side c.args.incoming.now c.args.file.now) c.args.plan.slash c.args.plan.instances c.args.plan.arcs c.args.plan.first c.args.side c.args.entries.now c.args.first c.args.some c.args.whom c.args.celltype.now c.args.event c.args.arcs.now c.args.flags.now c.args.states.now c.args.count c.loop-k.k c.loop-k.states _ c.loop-k-test.true c.loop-k.invariant.2 (w.run_entry-number.ensures.1.0 w.if-number-ne0.false))) | else-is_wanted w ↦ (omega (arith, c.loop-k-test.true), c.if-is_wanted.auto.states ∙ c.loop-k.invariant.1, rw (w.states-is, add-one) (entries_more c.args.start.now (pick c.args.side c.args.incoming.now c.args.file.now) c.args.plan.slash c.args.plan.instances c.args.plan.arcs c.args.plan.first c.args.side c.args.entries.now c.args.first c.args.some c.args.whom c.args.celltype.now c.args.event c.args.arcs.now c.args.flags.now c.args.states.now c.args.count c.loop-k.k c.loop-k.states c.loop-k.states c.loop-k-test.true c.loop-k.invariant.2 (seats_unwanted c.args.start.now (pick c.args.side c.args.incoming.now c.args.file.now) c.args.plan.slash c.args.plan.instances c.args.entries.now (28 * (c.args.first + c.loop-k.k)) c.args.whom c.args.celltype.now c.args.arcs.now c.args.flags.now c.loop-k.states c.args.count (rw c.head_at-entry.ensures at (c.is_wanted.ensures w.if-is_wanted.false))))) ]
+    elim c.if-is_wanted.branch [ then-is_wanted+else-number-ne0 w ↦ (omega (arith, c.loop-k-test.true), c.if-is_wanted.auto.states ∙ c.loop-k.invariant.1, rw (w.states-is, add-one) (entries_more c.args.start.now (pick c.args.side c.args.incoming.now c.args.file.now) c.args.plan.slash c.args.plan.instances c.args.plan.arcs c.args.plan.first c.args.side c.args.entries.now c.args.first c.args.some c.args.whom c.args.celltype.now c.args.event c.args.arcs.now c.args.flags.now c.args.states.now c.args.count c.loop-k.k c.loop-k.states _ c.loop-k-test.true c.loop-k.invariant.2 (w.run_entry-number.ensures.1.0 w.if-number-ne0.false))) | else-is_wanted w ↦ (omega (arith, c.loop-k-test.true), c.if-is_wanted.auto.states ∙ c.loop-k.invariant.1, rw (w.states-is, add-one) (entries_more c.args.start.now (pick c.args.side c.args.incoming.now c.args.file.now) c.args.plan.slash c.args.plan.instances c.args.plan.arcs c.args.plan.first c.args.side c.args.entries.now c.args.first c.args.some c.args.whom c.args.celltype.now c.args.event c.args.arcs.now c.args.flags.now c.args.states.now c.args.count c.loop-k.k c.loop-k.states c.loop-k.states c.loop-k-test.true c.loop-k.invariant.2 (seats_unwanted c.args.start.now (pick c.args.side c.args.incoming.now c.args.file.now) c.args.plan.slash c.args.plan.instances c.args.entries.now (28 * (c.args.first + c.loop-k.k)) c.args.whom c.args.celltype.now c.args.arcs.now c.args.flags.now c.loop-k.states c.args.count (rw c.head_at-entry.ensures at (c.is_wanted.ensures w.if-is_wanted.false))))) ]
 
 pub shape_of-states : goal.shape_of-states
 shape_of-states c =
