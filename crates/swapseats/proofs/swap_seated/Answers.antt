@@ -11,6 +11,18 @@ use Rattle.swaparcs.proofs.ArcLaws.{arcs_none, written_none}
 use Rattle.chunks.specs.Chunks.{last_judged, last_written, swapped-done, swapped-stop}
 use Rattle.swapseats.proofs.swap_seated.Goals as goal
 
+pub slice_bounds-swap_chunks-end-then-chosen-plan-2 : goal.slice_bounds-swap_chunks-end-then-chosen-plan-2
+slice_bounds-swap_chunks-end-then-chosen-plan-2 c = sym (length-replicate {A = ℕ} 589824 0)
+
+pub slice_bounds-run_chunk-end-2 : goal.slice_bounds-run_chunk-end-2
+slice_bounds-run_chunk-end-2 c = sym (length-replicate {A = ℕ} 589824 0)
+
+pub slice_bounds-write_seats-end : goal.slice_bounds-write_seats-end
+slice_bounds-write_seats-end c = sym c.run_chunk-fault.ensures.0
+
+pub slice_bounds-write_seats-end-then-not-is_fault : goal.slice_bounds-write_seats-end-then-not-is_fault
+slice_bounds-write_seats-end-then-not-is_fault c = sym c.run_chunk-fault.ensures.1
+
 pub mark_both-requires : goal.mark_both-requires
 mark_both-requires c =
     (c.requires.0, length-replicate {A = ℕ} 131072 0)
