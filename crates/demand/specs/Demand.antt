@@ -1,5 +1,4 @@
--- 'Patching is annotating with the new file': demand 3, with the new file's own text. Joins the law of the new file's reading (crate splice) and that
--- of the patch's answer (crate patch).
+-- Where a word of the file or of the incoming text stands in the new file (the laws: proofs/Demand.antt).
 -- Assumes nothing.
 use Prim.Native.Nat.{ℕ, ◌+◌, ◌-◌}
 use Rattle.std.specs.Prelude.{ltb}
