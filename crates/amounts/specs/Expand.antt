@@ -12,7 +12,7 @@ use Rattle.grammar.specs.declared.Value.{Value}
 use Rattle.grammar.specs.Meaning.{nothing}
 use Rattle.tables.specs.Layout.{amount_word, value_words, values_row}
 use Rattle.history.specs.Events.{limit}
-use Rattle.history.proofs.Ranges.{InRange}
+use Rattle.history.specs.Ranges.{InRange}
 use Rattle.history.specs.Sheet.{Group, absolute, increment, check, Row, r01, r10, r0z, rz1, r1z, rz0, Corner, minimum, typical, maximum, Triple, blank, nth, by_row_of, delay_rows, check_rows, rows, amount}
 use Rattle.slots.specs.Slots.{numeral, word_of, slot_at}
 use Rattle.amounts.specs.Amounts.{given, delay_choice, choice, value_row, expanded}

@@ -8,7 +8,7 @@ use Rattle.std.proofs.lemmas.Bool.{lt-leb}
 use Rattle.classes.specs.Choice.{pick, or}
 use Rattle.history.specs.Events.{limit, Value, Supply, nothing, replace, add, Held, holds, fails, summed, step, final, fails_with}
 use Rattle.history.specs.Sheet.{Group, absolute, increment, check, giving}
-use Rattle.history.proofs.Ranges.{InRange}
+use Rattle.history.specs.Ranges.{InRange}
 use Rattle.slots.specs.Slots.{numeral, word_of}
 use Rattle.amounts.specs.Amounts.{empty, near, sum, refusal, changed, lesser}
 

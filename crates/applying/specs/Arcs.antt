@@ -16,7 +16,7 @@ use Rattle.sheetparts.specs.declared.SheetCheck.TheVariants.{Good}
 use Rattle.sheetlaws.specs.Sheet.{place}
 use Rattle.history.specs.Events.{limit, Value, holds, fails, summed, step, final, fails_with, any_of}
 use Rattle.history.proofs.EventLaws.{any_cong}
-use Rattle.history.proofs.Ranges.{InRange}
+use Rattle.history.specs.Ranges.{InRange}
 use Rattle.history.specs.Sheet as h
 use Rattle.history.specs.Sheet.{Slot, Values, Group, absolute, increment, check, Entry, each, amount, giving, below, arc_slots}
 use Rattle.slots.specs.Slots.{word_of, slot_number, slot_at, same_slot, put, spelled, sheet_at}

@@ -19,7 +19,7 @@ use Rattle.sheet.specs.Find.{second_wanted, wanted, arc-found, arc_absent}
 use Rattle.sheet.specs.declared.Found.{Found}
 use Rattle.sheet.specs.declared.Found.TheVariants.{At, Nothing}
 use Rattle.grammar.specs.Meaning.{Item}
-use Rattle.history.proofs.Ranges.{InRange}
+use Rattle.history.specs.Ranges.{InRange}
 use Rattle.history.specs.Events.{any_of}
 use Rattle.history.specs.Sheet.{Key, Records, Slot, Values, Entry, end_name, ends_at, matches, below}
 use Rattle.history.proofs.Addressing.{matches-key}

@@ -11,7 +11,7 @@ use Rattle.sheetparts.specs.Form.{check_of, path_at, type_at}
 use Rattle.sheetparts.specs.declared.SheetCheck.TheVariants.{Good}
 use Rattle.history.specs.Events.{step, final, any_of}
 use Rattle.history.specs.Sheet.{Instance, Slot, Values, Entry, Cell, at, every, applies, matches, entry_event}
-use Rattle.history.proofs.Ranges.{InRange}
+use Rattle.history.specs.Ranges.{InRange}
 use Rattle.slots.specs.Slots.{spelled, sheet_at}
 use Rattle.slots.specs.Spelled.{spelled_same}
 use Rattle.applying.specs.Says.{entry_of}

@@ -24,7 +24,7 @@ use Rattle.sheet.specs.declared.Found.{Found}
 use Rattle.sheet.specs.declared.Found.TheVariants.{At, Nothing}
 use Rattle.views.specs.Views.{cell_at}
 use Rattle.history.specs.Events.{nothing, Event}
-use Rattle.history.proofs.Ranges.{Fits}
+use Rattle.history.specs.Ranges.{Fits}
 use Rattle.history.specs.Sheet as part
 use Rattle.history.specs.Sheet.{Slot, Values, Cell, arc_slots, cell_event, events, file_events, each}
 use Rattle.applying.specs.Says.{cell_of, cells_of, part_at, name_at}

@@ -21,7 +21,7 @@ use Rattle.sheetlaws.specs.Sheet.{place}
 use Rattle.views.specs.Views.{cell_at}
 use Rattle.history.specs.Events.{Event}
 use Rattle.history.proofs.EventLaws.{none≢some, some_inj}
-use Rattle.history.proofs.Faults.{Fault, later}
+use Rattle.history.specs.Faults.{Fault, later}
 use Rattle.history.specs.Sheet.{Slot, Values, Cell, arc_slots, cell_event, entry_event, events, file_events}
 use Rattle.applying.specs.Says.{entry_of, cell_of, cells_of}
 use Rattle.applying.specs.Rows.{CellIs, cell-is}

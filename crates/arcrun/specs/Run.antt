@@ -15,7 +15,7 @@ use Rattle.sound.specs.Sound.{total}
 use Rattle.views.specs.Views.{head_at}
 use Rattle.amounts.specs.Amounts.{arc_refusal, arc_written}
 use Rattle.history.specs.Events.{Event}
-use Rattle.history.proofs.Faults.{Fault}
+use Rattle.history.specs.Faults.{Fault}
 use Rattle.history.specs.Sheet as part
 use Rattle.history.specs.Sheet.{every, Slot, Values, Cell, arc_slots, cell_number, entry_event, events, file_events}
 use Rattle.applying.specs.Says.{entry_of, cell_of, cells_of}

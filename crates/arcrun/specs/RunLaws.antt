@@ -25,8 +25,8 @@ use Rattle.amounts.specs.Expand.{amount_in_range}
 use Rattle.amounts.specs.Laws.{first_of}
 use Rattle.history.specs.Events.{Value, nothing, step, final, fails_with, any_of, Event}
 use Rattle.history.proofs.EventLaws.{any_cong, any_false, clash, none≢some}
-use Rattle.history.proofs.Faults.{later}
-use Rattle.history.proofs.Ranges.{InRange, Fits}
+use Rattle.history.specs.Faults.{later}
+use Rattle.history.specs.Ranges.{InRange, Fits}
 use Rattle.history.specs.Sheet.{Group, absolute, increment, check, Slot, Values, Cell, arc_slots, addresses, entry_event, giving, each}
 use Rattle.slots.specs.Slots.{slot_at}
 use Rattle.applying.specs.Says.{group_of, entry_of}

@@ -12,8 +12,8 @@ use Rattle.std.proofs.Math.ListN.{length, length-append}
 use Rattle.classes.specs.Choice.{pick}
 use Rattle.sheetlaws.specs.Sheet.{place}
 use Rattle.history.proofs.EventLaws.{clash, none≢some}
-use Rattle.history.proofs.Faults.{Fault}
-use Rattle.history.proofs.Scan.{better, own_fault}
+use Rattle.history.specs.Faults.{Fault}
+use Rattle.history.specs.Scan.{better, own_fault}
 use Rattle.history.specs.Sheet.{arc_slots}
 use Rattle.slots.specs.Slots.{values_of, sheet_at}
 use Rattle.meaning.specs.declared.Whom.{Whom}

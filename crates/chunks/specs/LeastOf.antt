@@ -11,8 +11,8 @@ use Rattle.std.proofs.Math.Dec.{eqb}
 use borrow.Author.Tests.{eqb-true, eqb-false, ltb-true}
 use Rattle.classes.specs.Choice.{pick, and, or}
 use Rattle.history.proofs.EventLaws.{clash}
-use Rattle.history.proofs.Faults.{Fault}
-use Rattle.history.proofs.Scan.{precedes, better}
+use Rattle.history.specs.Faults.{Fault}
+use Rattle.history.specs.Scan.{precedes, better}
 use Rattle.patching.specs.Group.{least_fault}
 use Rattle.patching.specs.GroupLaws.{better_assoc}
 

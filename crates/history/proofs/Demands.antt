@@ -7,7 +7,8 @@ use Rattle.history.specs.Events.{holds, Event, sheet, refused, left, history, af
 use Rattle.history.proofs.EventLaws.{refused_unchanged}
 use Rattle.history.specs.Sheet.{Records, Slot, Values, Cell, Cut, cut, swapped, events, file_events, annotate, patch}
 use Rattle.history.proofs.SheetLaws.{patch_annotates, patch-outside, patch_commutes, annotate_exactly}
-use Rattle.history.proofs.Places.{renamed_cell, renamed_answer, patch-is-new-file}
+use Rattle.history.specs.Places.{renamed_cell, renamed_answer}
+use Rattle.history.proofs.Places.{patch-is-new-file}
 
 module _ (records : Records) {Word : Type 0} where
   -- Demand 2, for annotating: the sheet v is given exactly if no cell gets 12 or 13 and no entry 14, and every slot's history, over all entries in

@@ -1,6 +1,6 @@
 -- Refusals found slot by slot: the first event that is refused is the least of all faults, by event and then by number.
 -- Assumes nothing.
-use Rattle.std.specs.Prelude.{◌≡◌, Bool, ◌⊎◌, leb, ℤ, nat_abs, ◌+ℤ◌}
+use Rattle.std.specs.Prelude.{◌≡◌, Bool, ◌⊎◌, leb, nat_abs, ◌+ℤ◌}
 use Rattle.std.proofs.Math.Path.{refl, ap}
 use Rattle.std.proofs.Common.{sym, ◌∙◌, eqb-true, eq-eqb}
 use Rattle.std.proofs.Math.Bool.{true, false}
@@ -14,15 +14,8 @@ use Rattle.classes.specs.Choice.{pick, or, and}
 use Rattle.names.specs.Name.{both}
 use Rattle.history.specs.Events.{limit, Value, Supply, nothing, replace, add, Held, holds, fails, summed, step, next, final, fails_with, any_of}
 use Rattle.history.specs.Events.{or_else, when, Event, sheet, refused, unless, history, failing, number, outcome}
+use Rattle.history.specs.Faults.{Fault, later}
 use Rattle.history.proofs.EventLaws.{any_cong, any_false, step_fine, history_snoc, no_number, clash, some_inj, none≢some}
-
-pub record Fault : Type 0 where
-  pub event : ℕ
-  pub number : ℕ
-
-unfoldable pub later : Option Fault → Option Fault
-later none = none
-later (some f) = some (record { event = suc f.event; number = f.number })
 
 unfoldable pub fault_here : Held → Option Fault → Option Fault
 fault_here (holds v) rest = later rest

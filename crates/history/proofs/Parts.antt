@@ -16,8 +16,10 @@ use Rattle.classes.specs.Choice.{pick}
 use Rattle.history.specs.Events.{Value, holds, step, next, final, Event, everywhere, unless}
 use Rattle.history.specs.Events.{any_of, or_else, when, history, lenient, outcome, stuck, judge, folded}
 use Rattle.history.proofs.EventLaws.{some_inj, none≢some, any_false, no_number, step_fine, lenient-history}
-use Rattle.history.proofs.Faults.{Fault, later, fault_here, first_fault, Occurs, stuck_on, number_on, found, missed, lower, behind-e, ahead, no_fault, least_fault_lem}
-use Rattle.history.proofs.Scan.{Leq, precedes, better, own_here, own_fault, word_answer, fault_answer, own_here-none, leq_trans, precedes_leq, not-precedes}
+use Rattle.history.specs.Faults.{Fault, later}
+use Rattle.history.proofs.Faults.{fault_here, first_fault, Occurs, stuck_on, number_on, found, missed, lower, behind-e, ahead, no_fault, least_fault_lem}
+use Rattle.history.specs.Scan.{precedes, better, own_here, own_fault}
+use Rattle.history.proofs.Scan.{Leq, word_answer, fault_answer, own_here-none, leq_trans, precedes_leq, not-precedes}
 use Rattle.history.proofs.Scan.{better-none, own_none, own_some, fault_event}
 use Rattle.history.proofs.BySlots.{lenient_own}
 use Rattle.history.proofs.Restricted.{only, restricted, restricted_in}

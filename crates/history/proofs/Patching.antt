@@ -13,10 +13,10 @@ use Rattle.std.proofs.Math.ListN.{get_elem?}
 use Rattle.std.proofs.lemmas.List.{length-map}
 use Rattle.classes.specs.Choice.{pick}
 use Rattle.history.specs.Events.{Event, Answer, sheet, refused, lenient, folded}
-use Rattle.history.proofs.Faults.{Fault, later}
-use Rattle.history.proofs.Scan.{precedes, better, own_here, own_fault}
+use Rattle.history.specs.Faults.{Fault, later}
+use Rattle.history.specs.Scan.{precedes, better, own_here, own_fault}
 use Rattle.history.specs.Sheet.{Records, Slot, Values, Cell, Cut, cut, events, file_events, slots_of, patch}
-use Rattle.history.proofs.BySlots.{new_events}
+use Rattle.history.specs.BySlots.{new_events}
 use Rattle.history.proofs.Parts.{least_of, least-none, least_more, fold_left, fold_fault, fold_late, own_is-fold, words_of}
 use Rattle.history.proofs.EventLaws.{none≢some}
 use Rattle.history.proofs.Work.{Work, seated, Shows, touched, work_events, work_fault, work_left, least_fault, Covered, work_words, words_lenient, patch_refused, patch-done}

@@ -6,12 +6,13 @@ use Rattle.std.proofs.Common.{sym, ◌∙◌}
 use mathlib.Core.List.{List, [], ◌∷◌, ◌++◌, map}
 use Rattle.std.proofs.Math.Option.{Option, none, some}
 use Rattle.classes.specs.Choice.{and}
-use Rattle.history.specs.Events.{Value, Held, holds, next, final, fails_with, Event, Answer, sheet, refused, everywhere, unless}
+use Rattle.history.specs.Events.{Value, Held, holds, next, final, fails_with, Event, Answer, sheet, everywhere, unless}
 use Rattle.history.specs.Events.{history, failing, number, outcome, annotated}
 use Rattle.history.proofs.EventLaws.{any_cong}
-use Rattle.history.specs.Sheet.{Records, Slot, Values, Entry, Cell, applies, addresses, lacks, matches}
+use Rattle.history.specs.Sheet.{Records, Values, Entry, Cell, applies, addresses, lacks, matches}
 use Rattle.history.specs.Sheet.{cell_number, given, if_arc, cell_event, entry_event, events, file_events, each, slots_of, Cut, cut, swapped, annotate}
 use Rattle.history.specs.Sheet.{patch}
+use Rattle.history.specs.Places.{renamed_answer, renamed_entry, renamed_cell}
 use Rattle.history.proofs.SheetLaws.{patch_annotates}
 
 map-append : {A B : Type 0} (f : A → B) (x y : List A) → map f (x ++ y) ≡ map f x ++ map f y
@@ -21,10 +22,6 @@ map-append f (a ∷ x) y = rw (map-append f x y)
 module _ {Slot Word Other : Type 0} (f : Word → Other) where
   unfoldable pub renamed : Event Slot Word → Event Slot Other
   renamed e = record { word = f e.word; own = e.own; gives = e.gives }
-
-  unfoldable pub renamed_answer : Answer Slot Word → Answer Slot Other
-  renamed_answer (sheet v) = sheet v
-  renamed_answer (refused n w) = refused n (f w)
 
   pub renamed-history : (es : List (Event Slot Word)) (s : Slot) (h : Held) → history h (map renamed es) s ≡ history h es s
   unfolding history renamed
@@ -36,7 +33,7 @@ module _ {Slot Word Other : Type 0} (f : Word → Other) where
     unfolding failing
     renamed-failing n es = any_cong _ _ slots (λ s m. ap (λ (h : Held). and (judged s) (fails_with n h)) (renamed-history es s (holds (start s))))
 
-    renamed-unless : (w : Word) (o : Option ℕ) (a : Answer Slot Word) → unless (f w) o (renamed_answer a) ≡ renamed_answer (unless w o a)
+    renamed-unless : (w : Word) (o : Option ℕ) (a : Answer Slot Word) → unless (f w) o (renamed_answer f a) ≡ renamed_answer f (unless w o a)
     unfolding unless renamed_answer
     renamed-unless w none a = refl
     renamed-unless w (some n) a = refl
@@ -46,7 +43,7 @@ module _ {Slot Word Other : Type 0} (f : Word → Other) where
     unfolding number renamed
     renamed-number done e = rw (← map-append renamed done (e ∷ []), renamed-failing 15 (done ++ (e ∷ [])), renamed-failing 16 (done ++ (e ∷ [])))
 
-    pub renamed-outcome : (done todo : List (Event Slot Word)) → outcome slots judged start v (map renamed done) (map renamed todo) ≡ renamed_answer
+    pub renamed-outcome : (done todo : List (Event Slot Word)) → outcome slots judged start v (map renamed done) (map renamed todo) ≡ renamed_answer f
         (outcome slots judged start v done todo)
     unfolding outcome renamed_answer renamed
     renamed-outcome done [] = refl
@@ -59,43 +56,37 @@ module _ {Slot Word Other : Type 0} (f : Word → Other) where
         ∙ renamed-unless e.word (number slots judged start done e) (outcome slots judged start v (done ++ (e ∷ [])) more)
 
   pub renamed-annotated : (slots : List Slot) (start : Slot → Value) (es : List (Event Slot Word))
-      → annotated slots start (map renamed es) ≡ renamed_answer (annotated slots start es)
+      → annotated slots start (map renamed es) ≡ renamed_answer f (annotated slots start es)
   unfolding annotated
   renamed-annotated slots start es = ap (λ (v : Slot → Value). outcome slots everywhere start v [] (map renamed es))
       (fun_ext (λ s. ap final (renamed-history es s (holds (start s))))) ∙ renamed-outcome slots everywhere start _ [] es
 
 module _ {Word Other : Type 0} (f : Word → Other) where
-  unfoldable pub renamed_entry : Entry Word → Entry Other
-  renamed_entry e = record { word = f e.word; kind = e.kind; group = e.group; first = e.first; second = e.second; values = e.values }
-
-  unfoldable pub renamed_cell : Cell Word → Cell Other
-  renamed_cell c = record { word = f c.word; type = c.type; part = c.part; entries = map renamed_entry c.entries }
-
   module _ (records : Records) where
-    renamed-entry : (c : Cell Word) (e : Entry Word) → entry_event records (renamed_cell c) (renamed_entry e) ≡ renamed f (entry_event records c e)
+    renamed-entry : (c : Cell Word) (e : Entry Word) → entry_event records (renamed_cell f c) (renamed_entry f e) ≡ renamed f (entry_event records c e)
     unfolding entry_event renamed_cell renamed_entry renamed lacks applies matches given if_arc addresses
     renamed-entry c e = refl
 
-    renamed_entries : (c : Cell Word) (l : List (Entry Word)) → map (entry_event records (renamed_cell c)) (map renamed_entry l) ≡ map (renamed f)
+    renamed_entries : (c : Cell Word) (l : List (Entry Word)) → map (entry_event records (renamed_cell f c)) (map (renamed_entry f) l) ≡ map (renamed f)
         (map (entry_event records c) l)
     renamed_entries c [] = refl
     renamed_entries c (e ∷ more) = rw (renamed-entry c e, renamed_entries c more)
 
-    renamed_own : (c : Cell Word) → cell_number records (renamed_cell c) ≡ cell_number records c
+    renamed_own : (c : Cell Word) → cell_number records (renamed_cell f c) ≡ cell_number records c
     unfolding cell_number applies renamed_cell
     renamed_own c = refl
 
-    pub renamed-events : (c : Cell Word) → events records (renamed_cell c) ≡ map (renamed f) (events records c)
+    pub renamed-events : (c : Cell Word) → events records (renamed_cell f c) ≡ map (renamed f) (events records c)
     unfolding events cell_event renamed renamed_cell
     renamed-events c = rw (renamed_own c, renamed_entries c c.entries)
 
-    pub renamed-file : (cells : List (Cell Word)) → file_events records (map renamed_cell cells) ≡ map (renamed f) (file_events records cells)
+    pub renamed-file : (cells : List (Cell Word)) → file_events records (map (renamed_cell f) cells) ≡ map (renamed f) (file_events records cells)
     unfolding file_events each
     renamed-file [] = refl
     renamed-file (c ∷ more) = rw (renamed-events c, renamed-file more, map-append)
 
     pub renamed-annotate : (start : Values) (cells : List (Cell Word))
-        → annotate records start (map renamed_cell cells) ≡ renamed_answer f (annotate records start cells)
+        → annotate records start (map (renamed_cell f) cells) ≡ renamed_answer f (annotate records start cells)
     unfolding annotate
     renamed-annotate start cells = rw (renamed-file cells) (renamed-annotated f (slots_of records) start (file_events records cells))
 
@@ -103,7 +94,7 @@ module _ {Word Other : Type 0} (f : Word → Other) where
     -- tells where in the new file a word stands
     pub patch-is-new-file : (start : Values) (cells : List (Cell Word)) (k : ℕ) (origin : Word) (incoming : Cell Word) (current : Values)
         (p : Cut (Cell Word)) (new : List (Cell Other))
-        → annotate records start cells ≡ sheet current → cut cells k ≡ some p → new ≡ map renamed_cell (swapped p incoming)
+        → annotate records start cells ≡ sheet current → cut cells k ≡ some p → new ≡ map (renamed_cell f) (swapped p incoming)
         → annotate records start new ≡ renamed_answer f (patch records start cells k origin incoming current)
     patch-is-new-file start cells k origin incoming current p new e c n = rw (n, patch_annotates records start cells k origin incoming current p e c)
         (renamed-annotate start (swapped p incoming))

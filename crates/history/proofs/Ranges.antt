@@ -1,21 +1,13 @@
 -- Values stay within 10^15 either way.
 -- Assumes nothing.
-use Rattle.std.specs.Prelude.{◌≡◌, refl, Bool, true, false, ℕ, ◌≤◌, leb, ℤ, nat_abs, ◌+ℤ◌}
+use Rattle.std.specs.Prelude.{◌≡◌, refl, Bool, true, false, ℕ, leb, nat_abs, ◌+ℤ◌}
 use Rattle.std.proofs.Common.{subst, arith, leb-true}
 use mathlib.Core.List.{List, Memᴰ}
 use Rattle.std.proofs.Math.Option.{none, some}
 use Rattle.classes.specs.Choice.{pick}
 use Rattle.history.specs.Events.{limit, Value, Supply, nothing, replace, add, Held, holds, fails, summed, step, Event, history}
+use Rattle.history.specs.Ranges.{InRange, Fits}
 use Rattle.history.proofs.EventLaws.{history_keeps, holds_inj}
-
-abbrev pub InRange : Value → Type 0
-InRange none = Unit {0}
-InRange (some z) = nat_abs z ≤ limit
-
-abbrev pub Fits : Supply → Type 0
-Fits nothing = Unit {0}
-Fits (replace t) = nat_abs t ≤ limit
-Fits (add t) = Unit {0}
 
 not-holds : {v : Value} {n : ℕ} → ◌≡◌ {A = Held} (fails n) (holds v) → ⊥
 not-holds e = let z : ◌≡◌ {A = ℕ} 0 1 = cc in omega arith

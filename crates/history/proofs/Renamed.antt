@@ -9,7 +9,8 @@ use Rattle.classes.specs.Choice.{pick}
 use Rattle.history.specs.Events.{Value, holds, final, any_of, Event, sheet, history, supply, lenient, outcome, affected, patched}
 use Rattle.history.specs.Sheet.{Records, Values, Cell, Cut, behind, cut, swapped, events, file_events, slots_of, patch_cut, patch}
 use Rattle.history.proofs.SheetLaws.{patch_commutes}
-use Rattle.history.proofs.Places.{renamed, renamed_answer, renamed_entry, renamed_cell, renamed-history, renamed-outcome, renamed-events, renamed-file}
+use Rattle.history.specs.Places.{renamed_answer, renamed_entry, renamed_cell}
+use Rattle.history.proofs.Places.{renamed, renamed-history, renamed-outcome, renamed-events, renamed-file}
 
 module _ {Slot Word Other : Type 0} (f : Word → Other) where
   renamed-lenient : (es : List (Event Slot Word)) → lenient (map (renamed f) es) ≡ map (renamed f) (lenient es)

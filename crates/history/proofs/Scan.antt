@@ -14,24 +14,13 @@ use Rattle.std.proofs.lemmas.Bool.{eqb-false}
 use Rattle.classes.specs.Choice.{pick, or, and}
 use Rattle.history.specs.Events.{Value, Held, holds, fails, step, final, Event, Answer, sheet, refused, outcome}
 use Rattle.history.proofs.EventLaws.{clash, some_inj, none≢some}
-use Rattle.history.proofs.Faults.{Fault, later, fault_here, first_fault, Occurs, no_fault, least_fault_lem}
+use Rattle.history.specs.Faults.{Fault, later}
+use Rattle.history.specs.Scan.{precedes, better, own_here, own_fault}
+use Rattle.history.proofs.Faults.{fault_here, first_fault, Occurs, no_fault, least_fault_lem}
 
 -- f is before g, or at the same event with no higher number
 abbrev pub Leq : Fault → Fault → Type 0
 Leq f g = (f.event < g.event) ⊎ ((f.event ≡ g.event) × (f.number ≤ g.number))
-
-abbrev pub precedes : Fault → Fault → Bool
-precedes g f = or (ltb g.event f.event) (and (eqb g.event f.event) (ltb g.number f.number))
-
--- the lesser of two; the first, if they are equal
-unfoldable pub better : Option Fault → Option Fault → Option Fault
-better none g = g
-better (some f) none = some f
-better (some f) (some g) = pick (precedes g f) (some g) (some f)
-
-unfoldable pub own_here : Option ℕ → Option Fault → Option Fault
-own_here none rest = later rest
-own_here (some n) rest = some (record { event = 0; number = n })
 
 pub own_here-none : (o : Option ℕ) (rest : Option Fault) → own_here o rest ≡ none → (o ≡ none) × (rest ≡ none)
 unfolding own_here later
@@ -131,11 +120,6 @@ better-some (some h) (some k) f e = go (precedes k h) refl e
     )
 
 module _ {Slot Word : Type 0} where
-  -- the first number that the records give
-  unfoldable pub own_fault : List (Event Slot Word) → Option Fault
-  own_fault [] = none
-  own_fault (e ∷ more) = own_here e.own (own_fault more)
-
   unfoldable pub word_answer : ℕ → Option (Event Slot Word) → (Slot → Value) → Answer Slot Word
   word_answer n none v = sheet v
   word_answer n (some e) v = refused n e.word

@@ -12,9 +12,9 @@ use Rattle.std.proofs.Math.ListN.{length, get_elem?}
 use Rattle.classes.specs.Choice.{pick}
 use Rattle.history.specs.Events.{Value, nothing, step, final, fails_with, or_else, when, Event, Answer, sheet, refused, unless, lenient, stuck, judge, folded}
 use Rattle.history.proofs.EventLaws.{any_none, fold_step, fold-stop}
-use Rattle.history.proofs.Faults.{Fault, later}
-use Rattle.history.proofs.Places.{renamed_answer}
-use Rattle.history.proofs.Scan.{own_here}
+use Rattle.history.specs.Faults.{Fault, later}
+use Rattle.history.specs.Places.{renamed_answer}
+use Rattle.history.specs.Scan.{own_here}
 use Rattle.history.proofs.Parts.{onward, fold_left, fold_fault, words_of, calmed-append}
 use Rattle.history.proofs.Restricted.{only, restricted}
 

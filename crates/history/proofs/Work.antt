@@ -15,12 +15,15 @@ use Rattle.classes.specs.Choice.{pick, or}
 use Rattle.history.specs.Events.{Value, supplied, supply, any_of, holds, step, final, fails_with, Event, sheet, refused}
 use Rattle.history.specs.Events.{history, lenient, affected, patched, stuck, judge}
 use Rattle.history.proofs.EventLaws.{some_inj, none≢some, clash, Within}
-use Rattle.history.proofs.Faults.{Fault, any_true}
-use Rattle.history.proofs.Scan.{own_here, own_fault, word_answer, fault_answer}
+use Rattle.history.specs.Faults.{Fault}
+use Rattle.history.proofs.Faults.{any_true}
+use Rattle.history.specs.Scan.{own_here, own_fault}
+use Rattle.history.proofs.Scan.{word_answer, fault_answer}
 use Rattle.history.specs.Sheet.{Records, Key, Slot, Values, Entry, Cell, Cut, cut, swapped, given, addresses, events, cell_event, entry_event, file_events}
 use Rattle.history.specs.Sheet.{each, slots_of, patch, patch_cut}
 use Rattle.history.proofs.SheetLaws.{arc-listed, file-at, file-within}
-use Rattle.history.proofs.BySlots.{new_events, new_low}
+use Rattle.history.specs.BySlots.{new_events}
+use Rattle.history.proofs.BySlots.{new_low}
 use Rattle.history.proofs.Restricted.{only, restricted}
 use Rattle.history.proofs.Parts.{least_of, least-none, onward, fold_left, fold_fault, calmed, part_fault, outcome-by-parts, part_left, words_of, lenient-append}
 

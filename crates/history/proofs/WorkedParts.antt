@@ -8,14 +8,13 @@ use Rattle.names.specs.Order
 use Rattle.names.specs.Name
 use Rattle.history.specs.Events
 use Rattle.history.specs.Events.{refused}
-use Rattle.history.proofs.Faults
-use Rattle.history.proofs.Scan
+use Rattle.history.specs.Faults
+use Rattle.history.specs.Scan
 use Rattle.history.specs.Sheet
 use Rattle.history.specs.Sheet.{Records, absolute, increment, Entry, Cell, Cut, patch}
-use Rattle.history.proofs.BySlots
+use Rattle.history.specs.BySlots
 use Rattle.history.proofs.Restricted
 use Rattle.history.proofs.Parts
-use Rattle.history.proofs.Work
 use Rattle.history.proofs.Work.{Work, work_fault, least_fault}
 use Rattle.history.specs.Worked.{all, inst, port_arc, records, all_are, port, cell}
 

@@ -19,7 +19,8 @@ use Rattle.laws.specs.Phases.{Sound, taker_sound, closed-off}
 use Rattle.laws.specs.Taken.{As, as_file, as_cell, starting, read_as_of, file-is, cell-is, Taken, terms, toks, Carried, tells, Every, scale_behind, opens_cell, opens_entry, those, cell_words, entry_words, Timely, Short}
 use Rattle.laws.proofs.Judged.{Passed, passed, blamed, nothing_amiss}
 use Rattle.laws.proofs.Behind.{Behind, behind, tells-append, then_fine, those-cons, Fed, fed, fed_split, fed_uncons, reached, reaches}
-use Rattle.laws.proofs.Log.{starts, item_places, cell_places, listed}
+use Rattle.laws.specs.Log.{starts}
+use Rattle.laws.proofs.Log.{item_places, cell_places, listed}
 use Rattle.laws.proofs.Counts.{entry_counts, per_cell, counted}
 
 -- a text follows all the rules, its tokens being taken so

@@ -16,13 +16,9 @@ use Rattle.grammar.specs.Meaning.{Item, Log, Book, item_of, noted, overlong, tim
 use Rattle.laws.specs.Walk.{through, along_inv, kept_if, some_inj}
 use Rattle.laws.specs.Taken.{As, starting, Taken, terms, tells, opens_cell, opens_entry, those, cell_words, entry_words}
 use Rattle.laws.specs.Phases.{leaves, turns, proper, moves, every, from, to}
+use Rattle.laws.specs.Log.{starts}
 use Rattle.laws.proofs.Judged.{pick_fine}
 use Rattle.laws.proofs.Behind.{then_fine}
-
--- where keywords start
-abbrev pub starts : List Placed → List ℕ
-starts [] = []
-starts (t ∷ ts) = t.start ∷ starts ts
 
 -- where the listed entries' keywords stand, and the listed cells'
 abbrev pub item_places : List Item → List ℕ

@@ -6,3 +6,4 @@ pub mod Taken
 pub mod Phases
 pub mod Holds
 pub mod Examples
+pub mod Log

@@ -9,7 +9,7 @@ use Rattle.sound.specs.Sound.{Each, SoundItem}
 use Rattle.views.specs.Views.{head_at}
 use Rattle.history.specs.Events.{Event, refused, folded}
 use Rattle.history.specs.Sheet.{Slot, Values, Cell, entry_event, slots_of}
-use Rattle.history.proofs.Ranges.{InRange}
+use Rattle.history.specs.Ranges.{InRange}
 use Rattle.slots.specs.Slots.{records_of, spelled, sheet_at}
 use Rattle.amounts.specs.Amounts.{expanded}
 use Rattle.applying.specs.Says.{entry_of}

@@ -9,7 +9,7 @@ use Rattle.grammar.specs.Meaning.{Item}
 use Rattle.sheetparts.specs.Form.{check_of}
 use Rattle.sheetparts.specs.declared.SheetCheck.TheVariants.{Good}
 use Rattle.history.specs.Events.{Event}
-use Rattle.history.proofs.Scan.{own_fault}
+use Rattle.history.specs.Scan.{own_fault}
 use Rattle.history.specs.Sheet.{Slot, Cell, entry_event, events}
 use Rattle.applying.specs.Says.{entry_of, cell_of}
 use Rattle.applying.specs.Rows.{CellIs}

@@ -23,7 +23,7 @@ use Rattle.sheet.specs.declared.Found.{Found}
 use Rattle.sheet.specs.declared.Found.TheVariants.{At, Nothing}
 use Rattle.views.specs.Views.{cell_at}
 use Rattle.history.specs.Events.{Event}
-use Rattle.history.proofs.Scan.{own_fault}
+use Rattle.history.specs.Scan.{own_fault}
 use Rattle.history.specs.Sheet as part
 use Rattle.history.specs.Sheet.{Slot, Cell, lacks, cell_number, cell_event, entry_event, events, file_events}
 use Rattle.slots.specs.Slots.{values_of, spelled, sheet_at}

@@ -34,14 +34,18 @@ use Rattle.sheet.specs.Find.{sheet_good}
 use Rattle.sheet.specs.Same.{same_records}
 use Rattle.sheet.specs.Same as same
 use Rattle.history.specs.Events.{Value, holds, final, Event, Answer, sheet, refused, left, history, affected}
-use Rattle.history.proofs.Ranges.{InRange, Fits, history_in_range}
+use Rattle.history.specs.Ranges.{InRange, Fits}
+use Rattle.history.proofs.Ranges.{history_in_range}
 use Rattle.history.specs.Sheet.{Slot, Values, Entry, Cell, Cut, cut, swapped, cell_event, entry_event, events, file_events, each, slots_of}
 use Rattle.history.specs.Sheet as history
 use Rattle.history.proofs.SheetLaws.{annotate_exactly, cut-none}
-use Rattle.history.proofs.Faults.{Fault}
-use Rattle.history.proofs.Scan.{own_fault, word_answer, fault_answer, scan}
-use Rattle.history.proofs.BySlots.{new_events, patch-by-slots}
-use Rattle.history.proofs.Places.{renamed_entry, renamed_cell, renamed_answer, renamed-annotate}
+use Rattle.history.specs.Faults.{Fault}
+use Rattle.history.specs.Scan.{own_fault}
+use Rattle.history.proofs.Scan.{word_answer, fault_answer, scan}
+use Rattle.history.specs.BySlots.{new_events}
+use Rattle.history.proofs.BySlots.{patch-by-slots}
+use Rattle.history.specs.Places.{renamed_entry, renamed_cell, renamed_answer}
+use Rattle.history.proofs.Places.{renamed-annotate}
 use Rattle.history.proofs.Demands.{demand_3}
 use Rattle.slots.specs.Slots.{meant, numeral, word_of, slot_number, slot_at, same_slot, put, arc_values, records_of, values_of, spelled, sheet_at}
 use Rattle.slots.specs.Numbers.{slot_number_lem, slot_at_lem, slot_below, word_time, value-fits, numeral-meant}

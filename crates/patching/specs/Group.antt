@@ -4,8 +4,8 @@ use Rattle.std.specs.Prelude.{ℕ, zero, suc, Bool, false, List, [], ◌∷◌, 
 use Rattle.std.proofs.Math.Option.{Option, none, some}
 use Rattle.classes.specs.Choice.{pick, and}
 use Rattle.history.specs.Events.{Value, step, final, fails_with, any_of, Event}
-use Rattle.history.proofs.Faults.{Fault, later}
-use Rattle.history.proofs.Scan.{better}
+use Rattle.history.specs.Faults.{Fault, later}
+use Rattle.history.specs.Scan.{better}
 use Rattle.amounts.specs.Laws.{first_of}
 
 module _ {Slot Word : Type 0} (group : List Slot) (touched : Slot → Bool) where

@@ -14,10 +14,13 @@ use Rattle.classes.specs.Choice.{pick, or, and}
 use Rattle.amounts.specs.Laws.{first_of}
 use Rattle.history.specs.Events.{Value, Supply, nothing, Held, holds, fails, step, next, final, fails_with, any_of, Event, history, lenient}
 use Rattle.history.proofs.EventLaws.{clash, none≢some, any_false, any_cong, any_none, step_fine}
-use Rattle.history.proofs.Faults.{Fault, later, fault_here, first_fault}
-use Rattle.history.proofs.Scan.{precedes, better, fault_of, scan}
+use Rattle.history.specs.Faults.{Fault, later}
+use Rattle.history.proofs.Faults.{fault_here, first_fault}
+use Rattle.history.specs.Scan.{precedes, better}
+use Rattle.history.proofs.Scan.{fault_of, scan}
 use Rattle.history.specs.Sheet.{Records, Slot, Values, each, below, arc_slots, slots_of}
-use Rattle.history.proofs.Ranges.{InRange, Fits, history_in_range}
+use Rattle.history.specs.Ranges.{InRange, Fits}
+use Rattle.history.proofs.Ranges.{history_in_range}
 use Rattle.patching.specs.Group.{fails_here, number_here, stepped, group_fault, group_left, least_fault}
 
 -- 1. Faults

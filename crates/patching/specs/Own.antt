@@ -10,10 +10,10 @@ use Rattle.std.proofs.Math.ListN.{get_elem?, length-map}
 use Rattle.sound.specs.Sound.{Each}
 use Rattle.history.specs.Events.{when, Event, lenient}
 use Rattle.history.proofs.EventLaws.{none≢some, some_inj}
-use Rattle.history.proofs.Faults.{Fault, later}
-use Rattle.history.proofs.Scan.{own_here, own_fault}
+use Rattle.history.specs.Faults.{Fault, later}
+use Rattle.history.specs.Scan.{own_here, own_fault}
 use Rattle.history.specs.Sheet.{Records, Slot, Entry, Cell, Cut, lacks, cell_number, cell_event, entry_event, events, file_events}
-use Rattle.history.proofs.BySlots.{new_events}
+use Rattle.history.specs.BySlots.{new_events}
 use Rattle.patching.specs.GroupLaws.{shifted}
 
 -- 1. Faults, some events later

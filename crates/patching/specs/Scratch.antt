@@ -22,7 +22,7 @@ use Rattle.sheetparts.specs.Form.{values_at, check_of}
 use Rattle.sheetparts.specs.declared.SheetCheck.TheVariants.{Good}
 use Rattle.sheetlaws.specs.Sheet.{place}
 use Rattle.history.specs.Events.{limit, Value, holds, fails, summed, step, final, fails_with, supplied, any_of}
-use Rattle.history.proofs.Ranges.{InRange}
+use Rattle.history.specs.Ranges.{InRange}
 use Rattle.history.specs.Sheet.{Slot, Values, Group, absolute, increment, check, Entry, each, giving, below, arc_slots}
 use Rattle.slots.specs.Slots.{numeral, word_of, slot_number, slot_at, same_slot, put, values_of, spelled, sheet_at}
 use Rattle.slots.specs.Numbers.{slot_number_lem, slot_at_lem, slot_below, value-fits}

@@ -6,7 +6,7 @@ use Rattle.std.proofs.Math.Option.{none, some}
 use Rattle.std.specs.Int.{w64}
 use Rattle.classes.specs.Choice.{pick, and}
 use Rattle.history.specs.Events.{Value}
-use Rattle.history.proofs.Ranges.{InRange}
+use Rattle.history.specs.Ranges.{InRange}
 use Rattle.history.specs.Sheet.{Row, r01, r10, r0z, rz1, r1z, rz0, Corner, minimum, typical, maximum, Slot, arc_slots, each}
 use Rattle.slots.specs.Slots.{meant, numeral, word_of, row_number_of, corner_number, slot_number, slot_at, same_slot}
 

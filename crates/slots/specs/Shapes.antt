@@ -17,7 +17,7 @@ use Rattle.sheetlaws.specs.Rule.{least, MayStand, empty, upward, downward, value
 use Rattle.sheetlaws.specs.Sheet.{Arc, From, ArcOk, ArcsOk, FromPath, InOk, InsOk, Fit, values_ok, nth, place, ar_next, arc_at, arcs_at, in_at, in_end, ins_at}
 use Rattle.sheetlaws.specs.Sheet as sheet
 use Rattle.sheetlaws.specs.Complete.{split}
-use Rattle.history.proofs.Ranges.{InRange}
+use Rattle.history.specs.Ranges.{InRange}
 use Rattle.history.specs.Sheet.{Slot}
 use Rattle.slots.specs.Slots.{meant, slot_number, arc_values, values_of, sheet_at}
 use Rattle.slots.specs.Spelled.{sound}

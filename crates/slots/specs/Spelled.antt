@@ -19,7 +19,7 @@ use Rattle.sheetlaws.specs.Whole.{length-arcs_at, decode_sound}
 use Rattle.sheetlaws.specs.Set.{ins_len, ins-length, encode-paste, first-place, good-parts, good-decode, arcs_from}
 use Rattle.sheet.specs.Find.{arc_there, sheet_good}
 use Rattle.history.specs.Events.{Value}
-use Rattle.history.proofs.Ranges.{InRange}
+use Rattle.history.specs.Ranges.{InRange}
 use Rattle.history.specs.Sheet.{Slot, Values}
 use Rattle.slots.specs.Slots.{numeral, word_of, slot_at, same_slot, put, values_of, arcs_with, with_values, spelled, sheet_at}
 use Rattle.slots.specs.Numbers.{same_exactly, value-fits}

@@ -12,7 +12,8 @@ use Rattle.grammar.specs.Grammar.{Act, note, skip, Term, opens}
 use Rattle.grammar.specs.Meaning.{Item, Log, Book, tidy, told}
 use Rattle.grammar.specs.Outcome.{no_log}
 use Rattle.laws.specs.Taken.{Taken, toks, tells, opens_cell, opens_entry, those, cell_words, entry_words}
-use Rattle.laws.proofs.Log.{starts, item_places, cell_places}
+use Rattle.laws.specs.Log.{starts}
+use Rattle.laws.proofs.Log.{item_places, cell_places}
 use Rattle.sound.specs.Sound.{Each}
 use Rattle.splice.proofs.Along.{move_tok, Goes, stream-goes, goes-stream, goes-split}
 use Rattle.splice.specs.Swap.{swapped}

@@ -17,7 +17,7 @@ use Rattle.laws.specs.Phases.{leaves, turns, proper, moves, every, from, to, in_
 use Rattle.laws.specs.Sides.{a_file}
 use Rattle.laws.specs.Taken.{As, Taken, terms, toks, tells, opens_cell, those, cell_words}
 use Rattle.laws.proofs.Behind.{Fed, fed, fed_uncons, fed_split, tells-append, then_fine}
-use Rattle.laws.proofs.Log.{starts}
+use Rattle.laws.specs.Log.{starts}
 use Rattle.laws.proofs.Exactly.{Follows}
 use Rattle.splice.proofs.Phases.{in_note, in_act, in_moves, in_cell_of, in_cell}
 use Rattle.splice.proofs.OneCell.{Block}

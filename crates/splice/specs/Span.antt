@@ -9,7 +9,7 @@ use Rattle.grammar.specs.Grammar.{Note, skip, heading, type, top, named, any, fi
 use Rattle.grammar.specs.Grammar as G
 use Rattle.grammar.specs.Outcome.{Stack}
 use Rattle.laws.specs.Taken.{Taken, toks, opens_cell, those}
-use Rattle.laws.proofs.Log.{starts}
+use Rattle.laws.specs.Log.{starts}
 use Rattle.splice.specs.Swap.{swapped}
 
 -- the bracket that finishes a cell

@@ -15,8 +15,9 @@ use Rattle.sheetparts.specs.declared.SheetCheck.TheVariants.{Good}
 use Rattle.views.specs.Views.{cell_at}
 use Rattle.history.specs.Events.{holds, final, history}
 use Rattle.history.proofs.EventLaws.{none≢some}
-use Rattle.history.proofs.Faults.{Fault}
-use Rattle.history.proofs.Scan.{better, precedes, own_fault, word_answer, fault_answer}
+use Rattle.history.specs.Faults.{Fault}
+use Rattle.history.specs.Scan.{better, precedes, own_fault}
+use Rattle.history.proofs.Scan.{word_answer, fault_answer}
 use Rattle.history.specs.Sheet.{Values, arc_slots, cut, behind}
 use Rattle.history.specs.Sheet as history
 use Rattle.history.proofs.BySlots.{patch-by-slots}

@@ -12,9 +12,9 @@ use Rattle.sheetparts.specs.declared.SheetCheck.TheVariants.{Good}
 use Rattle.sheetlaws.specs.Sheet.{place}
 use Rattle.history.specs.Events.{Event, lenient}
 use Rattle.history.proofs.EventLaws.{clash}
-use Rattle.history.proofs.Faults.{Fault}
-use Rattle.history.proofs.Scan.{better}
-use Rattle.history.proofs.BySlots.{new_events}
+use Rattle.history.specs.Faults.{Fault}
+use Rattle.history.specs.Scan.{better}
+use Rattle.history.specs.BySlots.{new_events}
 use Rattle.history.specs.Sheet.{Slot, Values, arc_slots, events, file_events}
 use Rattle.slots.specs.Slots.{values_of, sheet_at}
 use Rattle.applying.specs.Instances.{records_at}

@@ -13,9 +13,9 @@ use Rattle.sheetparts.specs.declared.SheetCheck.TheVariants.{Good}
 use Rattle.sheetlaws.specs.Sheet.{place}
 use Rattle.history.specs.Events.{Event, holds, final, history, lenient}
 use Rattle.history.proofs.EventLaws.{clash, none≢some}
-use Rattle.history.proofs.Faults.{Fault}
-use Rattle.history.proofs.Scan.{better, own_fault}
-use Rattle.history.proofs.BySlots.{new_events}
+use Rattle.history.specs.Faults.{Fault}
+use Rattle.history.specs.Scan.{better, own_fault}
+use Rattle.history.specs.BySlots.{new_events}
 use Rattle.history.specs.Sheet.{Slot, Values, arc_slots, events, file_events}
 use Rattle.slots.specs.Slots.{slot_number, slot_at, values_of, spelled, sheet_at}
 use Rattle.slots.specs.Numbers.{slot_at_lem, slot_below, slots_at, slots_length}

@@ -7,7 +7,7 @@ use Rattle.wire.specs.Wire.{Bytes}
 use Rattle.sheetparts.specs.Form.{check_of}
 use Rattle.sheetparts.specs.declared.SheetCheck.TheVariants.{Good}
 use Rattle.sheetlaws.specs.Sheet.{place}
-use Rattle.history.proofs.Scan.{own_fault}
+use Rattle.history.specs.Scan.{own_fault}
 use Rattle.history.specs.Sheet.{Values, arc_slots}
 use Rattle.slots.specs.Slots.{values_of, spelled, sheet_at}
 use Rattle.meaning.specs.declared.Whom.{Whom}

@@ -8,9 +8,9 @@ use Rattle.grammar.specs.declared.Cell as read
 use Rattle.grammar.specs.Meaning.{Item}
 use Rattle.sound.specs.Sound.{total}
 use Rattle.history.specs.Events.{Event, holds, final, history, affected}
-use Rattle.history.proofs.Faults.{Fault}
+use Rattle.history.specs.Faults.{Fault}
 use Rattle.history.specs.Sheet.{Slot, Values, Cell, Cut, events}
-use Rattle.history.proofs.BySlots.{new_events}
+use Rattle.history.specs.BySlots.{new_events}
 use Rattle.slots.specs.Slots.{records_of, values_of, sheet_at}
 use Rattle.applying.specs.Says.{cell_of, cells_of}
 use Rattle.applying.specs.Rows.{CellIs}

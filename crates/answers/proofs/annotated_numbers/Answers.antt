@@ -1,0 +1,8 @@
+-- `answers::annotated_numbers` meets its contract.
+use Rattle.answers.proofs.annotated_numbers.Goals as goal
+
+pub returns-in-Done : goal.returns-in-Done
+returns-in-Done c = rw c.in-Done.is
+
+pub returns-in-Refused : goal.returns-in-Refused
+returns-in-Refused c = rw c.in-Refused.is

@@ -1,0 +1,10 @@
+-- `answers::numbers` meets its contract.
+use Rattle.answers.proofs.numbers.Goals as goal
+
+pub returns-in-Refused : goal.returns-in-Refused
+returns-in-Refused c =
+    rw c.in-Refused.is
+
+pub returns-in-Read : goal.returns-in-Read
+returns-in-Read c =
+    rw (c.in-Read.is, c.bit.ensures)
