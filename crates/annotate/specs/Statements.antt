@@ -12,7 +12,7 @@ use Rattle.history.proofs.EventLaws.{clash, holds_inj}
 use Rattle.history.specs.Sheet.{Slot, Values, file_events}
 use Rattle.history.specs.Sheet as history
 use Rattle.history.proofs.Demands.{demand_2}
-use Rattle.slots.specs.Slots.{records_of, values_of}
+use Rattle.meaning.specs.Slots.{records_of, values_of}
 use Rattle.meaning.specs.declared.Annotated.{Annotated}
 use Rattle.meaning.specs.Meaning.{said, Course, AnnotateIs}
 

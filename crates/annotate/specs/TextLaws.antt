@@ -23,10 +23,10 @@ use Rattle.history.specs.Events.{Answer, sheet, refused, folded}
 use Rattle.history.specs.Sheet.{Slot, file_events, slots_of}
 use Rattle.history.specs.Sheet as history
 use Rattle.history.proofs.SheetLaws.{annotate-by_entries}
-use Rattle.slots.specs.Slots.{records_of, values_of, sheet_at}
-use Rattle.slots.specs.Spelled.{start}
-use Rattle.slots.specs.Shapes.{values_in_range}
-use Rattle.applying.specs.Says.{cells_of}
+use Rattle.meaning.specs.Slots.{records_of, values_of, sheet_at}
+use Rattle.meaning.specs.Spelled.{start}
+use Rattle.meaning.specs.Shapes.{values_in_range}
+use Rattle.meaning.specs.Says.{cells_of}
 use Rattle.meaning.specs.declared.Annotated.{Annotated}
 use Rattle.meaning.specs.declared.Annotated.TheVariants.{Done, Refused}
 use Rattle.meaning.specs.Meaning.{said, by_text, course, says_of, answer_of, sheet_of, out_of, cells_out, entries_out, AnnotateIs, cell_count}

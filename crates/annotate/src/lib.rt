@@ -8,8 +8,8 @@ ghost use Rattle.annotate.specs.Devices.{rows_there, any_device};
 ghost use Rattle.meaning.specs.Cells.{entries_before, is_refusal, TextRun};
 ghost use Rattle.meaning.specs.Meaning.{course, cell_count, AnnotateIs};
 
-use entryarcs::Plan;
-use meaning::Annotated;
+use meaning::entryarcs::Plan;
+use meaning::{Annotated, sheet};
 use readcells::Answer;
 use sheetparts::SheetCheck;
 

@@ -6,22 +6,22 @@ use Rattle.classes.specs.Choice.{pick}
 use Rattle.grammar.specs.Machine.{Res, bad}
 use Rattle.grammar.specs.Reading.{At}
 use Rattle.grammar.specs.Outcome.{read_cell_of}
-use Rattle.readcells.specs.declared.Answer.{Answer}
-use Rattle.readcells.specs.declared.Answer.TheVariants as answer
-use Rattle.readcells.specs.declared.FileRead.{FileRead}
+use Rattle.patch.specs.Answer.{Answer}
+use Rattle.patch.specs.Answer.TheVariants as answer
+use Rattle.patch.specs.FileRead.{FileRead}
 use Rattle.tables.specs.Left.{cells_left, entries_left}
-use Rattle.readcells.specs.Files.{answer_of, slash_of, unit_of, texts_of, FileIs}
+use Rattle.patch.specs.Files.{answer_of, slash_of, unit_of, texts_of, FileIs}
 use Rattle.sheetparts.specs.declared.SheetCheck.{SheetCheck}
 use Rattle.sheetparts.specs.declared.SheetCheck.TheVariants as sheet
 use Rattle.answers.specs.declared.ReadNumbers.{ReadNumbers}
 use Rattle.answers.specs.declared.SheetNumbers.{SheetNumbers}
 use Rattle.answers.specs.declared.ResultNumbers.{ResultNumbers}
-use Rattle.meaning.specs.declared.Annotated.{Annotated}
-use Rattle.meaning.specs.declared.Annotated.TheVariants as annotated
-use Rattle.meaning.specs.Meaning.{Course, AnnotateIs, cells_out, entries_out, out_of}
-use Rattle.meaning.specs.Meaning as meaning
-use Rattle.swap.specs.declared.Patched.{Patched}
-use Rattle.swap.specs.declared.Patched.TheVariants as patched
+use Rattle.patch.specs.Annotated.{Annotated}
+use Rattle.patch.specs.Annotated.TheVariants as annotated
+use Rattle.patch.specs.Annotating.{Course, AnnotateIs, cells_out, entries_out, out_of}
+use Rattle.patch.specs.Annotating as meaning
+use Rattle.patch.specs.Patched.{Patched}
+use Rattle.patch.specs.Patched.TheVariants as patched
 use Rattle.patch.specs.Meaning as patching
 
 -- 0 and the counts, the divider (1 for /) and the time scale; or the refusal's number and its place, and nothing else

@@ -3,13 +3,13 @@
 #![tactic(auto)]
 
 ghost use Rattle.std.specs.Prelude.{◌≡◌, ◌+◌, ◌<◌};
-ghost use Rattle.sheet.specs.Find.{ArcSearch};
-ghost use Rattle.applying.specs.Bytes.{refusal_in, written_in, refusal_every, written_every, applied_in, applied_every};
-ghost use Rattle.applying.specs.Ready.{Ready, InReady};
+ghost use Rattle.entryarcs.specs.Find.{ArcSearch};
+ghost use Rattle.entryarcs.specs.Bytes.{refusal_in, written_in, refusal_every, written_every, applied_in, applied_every};
+ghost use Rattle.entryarcs.specs.Ready.{Ready, InReady};
 
-use entryarcs::Plan;
+use entryarcs::sheet::Found;
+use entryarcs::{Plan, amounts, sheetrecords};
 use grammar::Entry;
-use sheet::Found;
 
 const DEVICE: u8 = 4;
 

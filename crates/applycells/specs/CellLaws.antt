@@ -13,20 +13,20 @@ use Rattle.names.specs.Order.{same_text}
 use Rattle.names.specs.Name.{canon, part_of}
 use Rattle.grammar.specs.declared.Cell as read
 use Rattle.grammar.specs.Meaning.{Item}
-use Rattle.sound.specs.Sound.{total}
+use Rattle.meaning.specs.Sound.{total}
 use Rattle.sheetparts.specs.Form.{check_of, type_at}
 use Rattle.sheetparts.specs.declared.SheetCheck.TheVariants.{Good}
-use Rattle.sheet.specs.Find.{find_instance}
-use Rattle.sheet.specs.declared.Found.{Found}
-use Rattle.sheet.specs.declared.Found.TheVariants.{At, Nothing}
+use Rattle.meaning.specs.Find.{find_instance}
+use Rattle.meaning.specs.FoundType.{Found}
+use Rattle.meaning.specs.FoundType.TheVariants.{At, Nothing}
 use Rattle.views.specs.Views.{cell_at}
 use Rattle.history.specs.Events.{nothing, step, final, fails_with, Event, any_of, or_else, when, stuck, judge, folded}
 use Rattle.history.proofs.EventLaws.{fold_step}
 use Rattle.history.specs.Sheet.{slots_of, Slot, Values, Cell, at, cell_number, cell_event, events, file_events, each}
-use Rattle.applying.specs.Says.{cell_of, cells_of, part_at, name_at}
-use Rattle.applying.specs.Rows.{cell-is}
-use Rattle.applying.specs.Instances.{records_at}
-use Rattle.applying.specs.Addressed.{cell_absent, cell-found, cell_differs, cell_same, cell-every}
+use Rattle.meaning.specs.Says.{cell_of, cells_of, part_at, name_at}
+use Rattle.meaning.specs.Rows.{cell-is}
+use Rattle.meaning.specs.Instances.{records_at}
+use Rattle.meaning.specs.Addressed.{cell_absent, cell-found, cell_differs, cell_same, cell-every}
 use Rattle.meaning.specs.declared.Whom.{Whom}
 use Rattle.meaning.specs.declared.Whom.TheVariants.{One, Every, Nobody}
 use Rattle.meaning.specs.declared.Annotated.{Annotated}

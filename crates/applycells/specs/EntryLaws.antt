@@ -9,18 +9,18 @@ use Rattle.std.proofs.Math.Option.{none, some}
 use Rattle.std.proofs.Math.ListN.{length, get_or}
 use Rattle.wire.specs.Wire.{Bytes}
 use Rattle.grammar.specs.Meaning.{Item}
-use Rattle.sound.specs.Sound.{SoundItem}
+use Rattle.meaning.specs.Sound.{SoundItem}
 use Rattle.sheetparts.specs.Form.{check_of}
 use Rattle.sheetparts.specs.declared.SheetCheck.TheVariants.{Good}
 use Rattle.tables.specs.Layout.{entry_row}
 use Rattle.history.specs.Events.{Event, judge, step, final}
 use Rattle.history.proofs.EventLaws.{fold_step, fold-stop}
 use Rattle.history.specs.Sheet.{Slot, Values, Cell, entry_event, slots_of}
-use Rattle.applying.specs.Says.{entry_of}
-use Rattle.applying.specs.Judged.{refusal_of, numbered, judged}
-use Rattle.applying.specs.Rows.{EntryIs, head_is, item-expanded}
-use Rattle.applying.specs.Instances.{records_at}
-use Rattle.applying.specs.Steps.{after, one-judged, one_left, every-judged, every-left}
+use Rattle.meaning.specs.Says.{entry_of}
+use Rattle.meaning.specs.Judged.{refusal_of, numbered, judged}
+use Rattle.meaning.specs.Rows.{EntryIs, head_is, item-expanded}
+use Rattle.meaning.specs.Instances.{records_at}
+use Rattle.meaning.specs.Steps.{after, one-judged, one_left, every-judged, every-left}
 use Rattle.meaning.specs.declared.Whom.{Whom}
 use Rattle.meaning.specs.declared.Whom.TheVariants.{One, Every, Nobody}
 use Rattle.meaning.specs.declared.Annotated.{Annotated}

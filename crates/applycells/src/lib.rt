@@ -2,16 +2,16 @@
 #![tactic(auto)]
 
 ghost use Rattle.std.specs.Prelude.{◌≡◌, ◌+◌, ◌*◌, ◌≤◌, length, get_or};
-ghost use Rattle.sheet.specs.Find.{InstanceSearch};
+ghost use Rattle.meaning.specs.Find.{InstanceSearch};
 ghost use Rattle.bytype.specs.ByType.{IndexReady};
 ghost use Rattle.byend.specs.Ends.{EndsReady};
-ghost use Rattle.applying.specs.Ready.{Ready};
+ghost use Rattle.meaning.specs.Ready.{Ready};
 ghost use Rattle.meaning.specs.Whom.{InSheet};
 ghost use Rattle.meaning.specs.Entries.{refusal_for, applied_for, EntriesRun};
 ghost use Rattle.meaning.specs.Cells.{entries_before, CellRun, CellsRun};
 
-use entryarcs::Plan;
-use meaning::{Annotated, Whom};
+use meaning::entryarcs::Plan;
+use meaning::{Annotated, Whom, amounts};
 
 const CHECK: u8 = 84;
 

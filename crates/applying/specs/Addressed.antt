@@ -17,7 +17,7 @@ use Rattle.sheet.specs.Find.{find_instance, instance-found, instance_absent}
 use Rattle.sheet.specs.declared.Found.TheVariants.{At, Nothing}
 use Rattle.history.specs.Events.{any_of}
 use Rattle.history.specs.Sheet.{Instance, Values, Entry, at, every, Cell, part_is, unapplied, applies, lacks, cell_number, matches, below}
-use Rattle.slots.specs.Found.{instance-at, instances_length, instance_once}
+use Rattle.amounts.specs.FoundSlots.{instance-at, instances_length, instance_once}
 use Rattle.applying.specs.Judged.{any_and, arc_is, fails_at, refusal_at, refusal_of}
 use Rattle.applying.specs.Below.{not_so, below_cong, below_none, below-some, any_at}
 use Rattle.applying.specs.Instances.{records_at}

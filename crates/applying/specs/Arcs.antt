@@ -19,9 +19,9 @@ use Rattle.history.proofs.EventLaws.{any_cong}
 use Rattle.history.specs.Ranges.{InRange}
 use Rattle.history.specs.Sheet as h
 use Rattle.history.specs.Sheet.{Slot, Values, Group, absolute, increment, check, Entry, each, amount, giving, below, arc_slots}
-use Rattle.slots.specs.Slots.{word_of, slot_number, slot_at, same_slot, put, spelled, sheet_at}
-use Rattle.slots.specs.Numbers.{slot_number_lem, slot_at_lem, slot_below, same_exactly}
-use Rattle.slots.specs.Spelled.{spelled_same, word_set, word_get}
+use Rattle.amounts.specs.Slots.{word_of, slot_number, slot_at, same_slot, put, spelled, sheet_at}
+use Rattle.amounts.specs.Numbers.{slot_number_lem, slot_at_lem, slot_below, same_exactly}
+use Rattle.amounts.specs.Spelled.{spelled_same, word_set, word_get}
 use Rattle.amounts.specs.Amounts.{empty, lesser, given, refusal, changed, arc_refusal, value_written, arc_written}
 use Rattle.amounts.specs.Laws.{first_of, lesser-first, held_refusal, held_first, is_add, word_is-empty, given-none, refusal_is, changed-is}
 use Rattle.applying.specs.Judged.{any_below, supply, arc_fails, changed_at}

@@ -19,8 +19,8 @@ use Rattle.history.specs.Events.{any_of, final, step}
 use Rattle.history.proofs.EventLaws.{clash}
 use Rattle.history.specs.Sheet.{Instance, Key, Slot, Values, Entry, at, every, Cell, applies, lacks, ends_at, matches, below, arc_slots, each}
 use Rattle.history.proofs.Addressing.{matches-path}
-use Rattle.slots.specs.Slots.{as_key, spelled, sheet_at}
-use Rattle.slots.specs.Found.{instance_once}
+use Rattle.amounts.specs.Slots.{as_key, spelled, sheet_at}
+use Rattle.amounts.specs.FoundSlots.{instance_once}
 use Rattle.amounts.specs.Amounts.{lesser}
 use Rattle.applying.specs.Says.{name_at, entry_of}
 use Rattle.applying.specs.Judged.{any_below, supply, arc_fails, changed_at, arc_is, fails_at, refusal_at, refusal_of}

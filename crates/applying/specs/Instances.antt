@@ -23,8 +23,8 @@ use Rattle.history.specs.Ranges.{InRange}
 use Rattle.history.specs.Events.{any_of}
 use Rattle.history.specs.Sheet.{Key, Records, Slot, Values, Entry, end_name, ends_at, matches, below}
 use Rattle.history.proofs.Addressing.{matches-key}
-use Rattle.slots.specs.Slots.{as_key, records_of, spelled, sheet_at}
-use Rattle.slots.specs.Found.{arc-at, arcs_length, arc_once}
+use Rattle.amounts.specs.Slots.{as_key, records_of, spelled, sheet_at}
+use Rattle.amounts.specs.FoundSlots.{arc-at, arcs_length, arc_once}
 use Rattle.amounts.specs.Amounts.{arc_refusal, arc_written}
 use Rattle.amounts.specs.Laws.{first_of}
 use Rattle.applying.specs.Says.{name_at, entry_of}

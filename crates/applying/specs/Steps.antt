@@ -12,8 +12,8 @@ use Rattle.sheetparts.specs.declared.SheetCheck.TheVariants.{Good}
 use Rattle.history.specs.Events.{step, final, any_of}
 use Rattle.history.specs.Sheet.{Instance, Slot, Values, Entry, Cell, at, every, applies, matches, entry_event}
 use Rattle.history.specs.Ranges.{InRange}
-use Rattle.slots.specs.Slots.{spelled, sheet_at}
-use Rattle.slots.specs.Spelled.{spelled_same}
+use Rattle.amounts.specs.Slots.{spelled, sheet_at}
+use Rattle.amounts.specs.Spelled.{spelled_same}
 use Rattle.applying.specs.Says.{entry_of}
 use Rattle.applying.specs.Judged.{refusal_of, changed_at, arc_is, applied}
 use Rattle.applying.specs.Bytes.{refusal_in, applied_in, refusal_every, applied_every}

@@ -15,33 +15,33 @@ use Rattle.names.specs.Order.{same_text}
 use Rattle.names.specs.Name.{canon, part_of}
 use Rattle.grammar.specs.declared.Cell as read
 use Rattle.grammar.specs.Meaning.{Item}
-use Rattle.sound.specs.Sound.{Each, SoundItem, total}
+use Rattle.meant.specs.Sound.{Each, SoundItem, total}
 use Rattle.sheetparts.specs.Form.{check_of, type_at}
 use Rattle.sheetparts.specs.declared.SheetCheck.TheVariants.{Good}
 use Rattle.sheetlaws.specs.Sheet.{place}
-use Rattle.sheet.specs.Find.{find_instance}
-use Rattle.sheet.specs.declared.Found.{Found}
-use Rattle.sheet.specs.declared.Found.TheVariants.{At, Nothing}
+use Rattle.meant.specs.Find.{find_instance}
+use Rattle.meant.specs.FoundType.{Found}
+use Rattle.meant.specs.FoundType.TheVariants.{At, Nothing}
 use Rattle.views.specs.Views.{cell_at}
 use Rattle.history.specs.Events.{nothing, Event}
 use Rattle.history.specs.Ranges.{Fits}
 use Rattle.history.specs.Sheet as part
 use Rattle.history.specs.Sheet.{Slot, Values, Cell, arc_slots, cell_event, events, file_events, each}
-use Rattle.applying.specs.Says.{cell_of, cells_of, part_at, name_at}
-use Rattle.applying.specs.Rows.{cell-is}
-use Rattle.applying.specs.Instances.{records_at}
-use Rattle.applying.specs.Addressed.{cell_absent, cell-found, cell_differs}
-use Rattle.meaning.specs.declared.Whom.{Whom}
-use Rattle.meaning.specs.declared.Whom.TheVariants.{One, Every, Nobody}
-use Rattle.meaning.specs.Whom.{whom_of, typed_as}
-use Rattle.meaning.specs.Entries.{EntriesAre}
-use Rattle.meaning.specs.Cells.{entries_before, no_cell, CellsAre}
-use Rattle.meaning.specs.CellList.{each_at, before, before-is, cell_no, cells_at, cells-next, file-append, entries_part}
-use Rattle.patching.specs.Where.{Where, at}
-use Rattle.patching.specs.Group.{stepped, group_left}
-use Rattle.patching.specs.GroupLaws.{quiet, quiet_stepped}
-use Rattle.patching.specs.Scratch.{Holds18, Flags}
-use Rattle.patching.specs.Meant.{may_touch, may_touch_lem}
+use Rattle.meant.specs.Says.{cell_of, cells_of, part_at, name_at}
+use Rattle.meant.specs.Rows.{cell-is}
+use Rattle.meant.specs.Instances.{records_at}
+use Rattle.meant.specs.Addressed.{cell_absent, cell-found, cell_differs}
+use Rattle.meant.specs.WhomType.{Whom}
+use Rattle.meant.specs.WhomType.TheVariants.{One, Every, Nobody}
+use Rattle.meant.specs.Whom.{whom_of, typed_as}
+use Rattle.meant.specs.Entries.{EntriesAre}
+use Rattle.meant.specs.Cells.{entries_before, no_cell, CellsAre}
+use Rattle.meant.specs.CellList.{each_at, before, before-is, cell_no, cells_at, cells-next, file-append, entries_part}
+use Rattle.meant.specs.Where.{Where, at}
+use Rattle.meant.specs.Group.{stepped, group_left}
+use Rattle.meant.specs.GroupLaws.{quiet, quiet_stepped}
+use Rattle.meant.specs.Scratch.{Holds18, Flags}
+use Rattle.meant.specs.Meant.{may_touch, may_touch_lem}
 use Rattle.arcrun.specs.declared.Least.{Least}
 use Rattle.arcrun.specs.declared.Least.TheVariants as least
 use Rattle.arcrun.specs.Run.{Ran, Of, EntriesRan, CellRan, CellsRan}

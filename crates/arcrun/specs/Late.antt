@@ -14,7 +14,7 @@ use Rattle.wire.specs.Wire.{Bytes}
 use Rattle.names.specs.Name.{part_of}
 use Rattle.grammar.specs.declared.Cell as read
 use Rattle.grammar.specs.Meaning.{Item}
-use Rattle.sound.specs.Sound.{SoundItem, total}
+use Rattle.meant.specs.Sound.{SoundItem, total}
 use Rattle.sheetparts.specs.Form.{check_of}
 use Rattle.sheetparts.specs.declared.SheetCheck.TheVariants.{Good}
 use Rattle.sheetlaws.specs.Sheet.{place}
@@ -23,18 +23,18 @@ use Rattle.history.specs.Events.{Event}
 use Rattle.history.proofs.EventLaws.{none≢some, some_inj}
 use Rattle.history.specs.Faults.{Fault, later}
 use Rattle.history.specs.Sheet.{Slot, Values, Cell, arc_slots, cell_event, entry_event, events, file_events}
-use Rattle.applying.specs.Says.{entry_of, cell_of, cells_of}
-use Rattle.applying.specs.Rows.{CellIs, cell-is}
-use Rattle.applying.specs.Instances.{records_at}
-use Rattle.meaning.specs.declared.Whom.{Whom}
-use Rattle.meaning.specs.Whom.{whom_of}
-use Rattle.meaning.specs.Entries.{no_item, EntriesAre}
-use Rattle.meaning.specs.Cells.{entries_before, no_cell, CellsAre}
-use Rattle.meaning.specs.CellList.{each_at, before, before-is, cell_no, entries_part}
-use Rattle.patching.specs.Where.{Where, at}
-use Rattle.patching.specs.Group.{number_here, stepped, group_fault, group_left}
-use Rattle.patching.specs.GroupLaws.{shifted, fault_append-none, fault_append-some}
-use Rattle.patching.specs.Scratch.{Holds18, Flags}
+use Rattle.meant.specs.Says.{entry_of, cell_of, cells_of}
+use Rattle.meant.specs.Rows.{CellIs, cell-is}
+use Rattle.meant.specs.Instances.{records_at}
+use Rattle.meant.specs.WhomType.{Whom}
+use Rattle.meant.specs.Whom.{whom_of}
+use Rattle.meant.specs.Entries.{no_item, EntriesAre}
+use Rattle.meant.specs.Cells.{entries_before, no_cell, CellsAre}
+use Rattle.meant.specs.CellList.{each_at, before, before-is, cell_no, entries_part}
+use Rattle.meant.specs.Where.{Where, at}
+use Rattle.meant.specs.Group.{number_here, stepped, group_fault, group_left}
+use Rattle.meant.specs.GroupLaws.{shifted, fault_append-none, fault_append-some}
+use Rattle.meant.specs.Scratch.{Holds18, Flags}
 use Rattle.arcrun.specs.Run.{entry_number, Of}
 use Rattle.arcrun.specs.RunLaws.{entry-number, entries_of, events-at, entries_length, RunSoFar}
 use Rattle.arcrun.specs.CellRuns.{whom_of_lem, ran_calm, cell-events, keyword, keyword-calm, past, past-at, CellsSoFar}

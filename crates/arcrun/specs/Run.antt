@@ -11,23 +11,23 @@ use Rattle.names.specs.Order.{same_text}
 use Rattle.sheetparts.specs.Form.{check_of, path_at, type_at}
 use Rattle.sheetparts.specs.declared.SheetCheck.TheVariants.{Good}
 use Rattle.sheetlaws.specs.Sheet.{place, in_end, nth}
-use Rattle.sound.specs.Sound.{total}
+use Rattle.meant.specs.Sound.{total}
 use Rattle.views.specs.Views.{head_at}
-use Rattle.amounts.specs.Amounts.{arc_refusal, arc_written}
+use Rattle.meant.specs.Amounts.{arc_refusal, arc_written}
 use Rattle.history.specs.Events.{Event}
 use Rattle.history.specs.Faults.{Fault}
 use Rattle.history.specs.Sheet as part
 use Rattle.history.specs.Sheet.{every, Slot, Values, Cell, arc_slots, cell_number, entry_event, events, file_events}
-use Rattle.applying.specs.Says.{entry_of, cell_of, cells_of}
-use Rattle.applying.specs.Rows.{CellIs}
-use Rattle.applying.specs.Instances.{records_at}
-use Rattle.meaning.specs.declared.Whom.{Whom}
-use Rattle.meaning.specs.declared.Whom.TheVariants.{One, Every, Nobody}
-use Rattle.meaning.specs.Entries.{rows_at, EntriesAre}
-use Rattle.meaning.specs.Cells.{CellsAre}
-use Rattle.patching.specs.Where.{Where, at}
-use Rattle.patching.specs.Group.{group_fault, group_left}
-use Rattle.patching.specs.Scratch.{masked, Holds18, Flags}
+use Rattle.meant.specs.Says.{entry_of, cell_of, cells_of}
+use Rattle.meant.specs.Rows.{CellIs}
+use Rattle.meant.specs.Instances.{records_at}
+use Rattle.meant.specs.WhomType.{Whom}
+use Rattle.meant.specs.WhomType.TheVariants.{One, Every, Nobody}
+use Rattle.meant.specs.Entries.{rows_at, EntriesAre}
+use Rattle.meant.specs.Cells.{CellsAre}
+use Rattle.meant.specs.Where.{Where, at}
+use Rattle.meant.specs.Group.{group_fault, group_left}
+use Rattle.meant.specs.Scratch.{masked, Holds18, Flags}
 use Rattle.arcrun.specs.declared.Least.{Least}
 use Rattle.arcrun.specs.declared.Least.TheVariants as least
 use Rattle.meant.specs.Touch.{meant_for}

@@ -18,30 +18,30 @@ use Rattle.sheetparts.specs.Form.{check_of}
 use Rattle.sheetparts.specs.declared.SheetCheck.TheVariants.{Good}
 use Rattle.sheetlaws.specs.Sheet.{place}
 use Rattle.grammar.specs.Meaning.{Item}
-use Rattle.sound.specs.Sound.{SoundItem}
+use Rattle.meant.specs.Sound.{SoundItem}
 use Rattle.tables.specs.Layout.{entry_row}
-use Rattle.amounts.specs.Amounts.{expanded, arc_refusal, arc_written}
-use Rattle.amounts.specs.Expand.{amount_in_range}
-use Rattle.amounts.specs.Laws.{first_of}
+use Rattle.meant.specs.Amounts.{expanded, arc_refusal, arc_written}
+use Rattle.meant.specs.Expand.{amount_in_range}
+use Rattle.meant.specs.Laws.{first_of}
 use Rattle.history.specs.Events.{Value, nothing, step, final, fails_with, any_of, Event}
 use Rattle.history.proofs.EventLaws.{any_cong, any_false, clash, none≢some}
 use Rattle.history.specs.Faults.{later}
 use Rattle.history.specs.Ranges.{InRange, Fits}
 use Rattle.history.specs.Sheet.{Group, absolute, increment, check, Slot, Values, Cell, arc_slots, addresses, entry_event, giving, each}
-use Rattle.slots.specs.Slots.{slot_at}
-use Rattle.applying.specs.Says.{group_of, entry_of}
-use Rattle.applying.specs.Judged.{supply, arc_is, given_is}
-use Rattle.applying.specs.Rows.{EntryIs, head_is, item-expanded, timely}
-use Rattle.applying.specs.Instances.{records_at}
-use Rattle.meaning.specs.declared.Whom.{Whom}
-use Rattle.meaning.specs.declared.Whom.TheVariants.{One, Every, Nobody}
-use Rattle.meaning.specs.CellList.{each_at}
-use Rattle.meaning.specs.Entries.{rows_at, no_item, EntriesAre}
-use Rattle.patching.specs.Where.{Where, at}
-use Rattle.patching.specs.Group.{fails_here, number_here, stepped, group_fault, group_left}
-use Rattle.patching.specs.GroupLaws.{shifted, left-append, fault_append-none, fault_append-some, quiet, quiet_stepped, group_in_range}
-use Rattle.patching.specs.Scratch.{masked, Holds18, Flags, scratch_refusal, scratch_written}
-use Rattle.patching.specs.Meant.{meant-one, meant-every, meant-none}
+use Rattle.meant.specs.Slots.{slot_at}
+use Rattle.meant.specs.Says.{group_of, entry_of}
+use Rattle.meant.specs.Judged.{supply, arc_is, given_is}
+use Rattle.meant.specs.Rows.{EntryIs, head_is, item-expanded, timely}
+use Rattle.meant.specs.Instances.{records_at}
+use Rattle.meant.specs.WhomType.{Whom}
+use Rattle.meant.specs.WhomType.TheVariants.{One, Every, Nobody}
+use Rattle.meant.specs.CellList.{each_at}
+use Rattle.meant.specs.Entries.{rows_at, no_item, EntriesAre}
+use Rattle.meant.specs.Where.{Where, at}
+use Rattle.meant.specs.Group.{fails_here, number_here, stepped, group_fault, group_left}
+use Rattle.meant.specs.GroupLaws.{shifted, left-append, fault_append-none, fault_append-some, quiet, quiet_stepped, group_in_range}
+use Rattle.meant.specs.Scratch.{masked, Holds18, Flags, scratch_refusal, scratch_written}
+use Rattle.meant.specs.Meant.{meant-one, meant-every, meant-none}
 use Rattle.arcrun.specs.declared.Least.{Least}
 use Rattle.arcrun.specs.declared.Least.TheVariants as least
 use Rattle.meant.specs.Touch.{meant_for}

@@ -11,7 +11,7 @@ use Rattle.classes.specs.Choice.{pick, and, or}
 use Rattle.wire.specs.Wire.{Bytes}
 use Rattle.grammar.specs.declared.Cell as read
 use Rattle.grammar.specs.Meaning.{Item}
-use Rattle.sound.specs.Sound.{SoundItem, total}
+use Rattle.meant.specs.Sound.{SoundItem, total}
 use Rattle.sheetparts.specs.Form.{check_of}
 use Rattle.sheetparts.specs.declared.SheetCheck.TheVariants.{Good}
 use Rattle.sheetlaws.specs.Sheet.{place}
@@ -19,20 +19,20 @@ use Rattle.views.specs.Views.{head_at}
 use Rattle.history.specs.Events.{Supply, nothing, supplied, any_of, Event, affected}
 use Rattle.history.specs.Events as some-event
 use Rattle.history.specs.Sheet.{Records, Slot, Entry, Cell, each, addresses, cell_event, entry_event, events, file_events}
-use Rattle.slots.specs.Slots.{slot_at}
-use Rattle.amounts.specs.Amounts.{expanded}
-use Rattle.applying.specs.Says.{entry_of, cell_of, cells_of}
-use Rattle.applying.specs.Judged.{any_append, arc_is, supply, given_is}
-use Rattle.applying.specs.Rows.{EntryIs, head_is, item-expanded}
-use Rattle.applying.specs.Instances.{records_at}
-use Rattle.meaning.specs.declared.Whom.{Whom}
-use Rattle.meaning.specs.declared.Whom.TheVariants.{One, Every, Nobody}
-use Rattle.meaning.specs.Entries.{rows_at, no_item, EntriesAre}
-use Rattle.meaning.specs.CellList.{each_at, before}
-use Rattle.patching.specs.Where.{Where, at}
-use Rattle.patching.specs.Meant.{meant-none, meant-one, meant-every}
-use Rattle.patching.specs.Scratch.{Flags, touched_flags, touch_flags}
-use Rattle.patching.specs.Own.{length-events}
+use Rattle.meant.specs.Slots.{slot_at}
+use Rattle.meant.specs.Amounts.{expanded}
+use Rattle.meant.specs.Says.{entry_of, cell_of, cells_of}
+use Rattle.meant.specs.Judged.{any_append, arc_is, supply, given_is}
+use Rattle.meant.specs.Rows.{EntryIs, head_is, item-expanded}
+use Rattle.meant.specs.Instances.{records_at}
+use Rattle.meant.specs.WhomType.{Whom}
+use Rattle.meant.specs.WhomType.TheVariants.{One, Every, Nobody}
+use Rattle.meant.specs.Entries.{rows_at, no_item, EntriesAre}
+use Rattle.meant.specs.CellList.{each_at, before}
+use Rattle.meant.specs.Where.{Where, at}
+use Rattle.meant.specs.Meant.{meant-none, meant-one, meant-every}
+use Rattle.meant.specs.Scratch.{Flags, touched_flags, touch_flags}
+use Rattle.meant.specs.Own.{length-events}
 use Rattle.meant.specs.Touch.{meant_for, entries_touched}
 use Rattle.arcrun.specs.Run.{Of}
 

@@ -5,13 +5,14 @@
 ghost use Rattle.std.specs.Prelude.{◌≡◌, [], ◌∷◌, ◌+◌, ◌≤◌, ◌<◌, length};
 ghost use Rattle.classes.specs.Choice.{pick};
 ghost use Rattle.sheetlaws.specs.Sheet.{ar_next};
-ghost use Rattle.sheet.specs.Find.{InstanceSearch};
-ghost use Rattle.meaning.specs.Whom.{InSheet};
-ghost use Rattle.patching.specs.Scratch.{masked, masked_word};
+ghost use Rattle.meant.specs.Find.{InstanceSearch};
+ghost use Rattle.meant.specs.Whom.{InSheet};
+ghost use Rattle.meant.specs.Scratch.{masked, masked_word};
 ghost use Rattle.arcrun.specs.Run.{entry_number, entry_state};
 
-use entryarcs::Plan;
-use meaning::Whom;
+use meant::amounts;
+use meant::entryarcs::Plan;
+use meant::meaning::Whom;
 
 // The least fault: its event in the new file, from 0 on, its number, and its word.
 #[derive(Clone, Copy)]

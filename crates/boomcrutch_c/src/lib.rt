@@ -6,8 +6,8 @@ ghost use Rattle.tokens.specs.Stream.{stream, count};
 ghost use Rattle.grammar.specs.Outcome.{read_file};
 ghost use Rattle.tables.specs.Left.{cells_left, entries_left};
 ghost use Rattle.sheetparts.specs.Form.{check_of};
-ghost use Rattle.meaning.specs.Meaning.{course, cells_out, entries_out, out_of};
-ghost use Rattle.patch.specs.Meaning as patching;
+ghost use Rattle.answers.specs.Annotating.{course, cells_out, entries_out, out_of};
+ghost use Rattle.answers.specs.Patching as patching;
 ghost use Rattle.answers.specs.Exports.{annotated_numbers, PatchLeft, read_numbers, cell_by, sheet_numbers};
 
 use answers::{ReadNumbers, ResultNumbers, SheetNumbers};

@@ -3,10 +3,11 @@
 
 ghost use Rattle.std.specs.Prelude.{◌≡◌, ◌+◌, ◌≤◌, ◌<◌, length};
 ghost use Rattle.sheetlaws.specs.Sheet.{place};
-ghost use Rattle.sheet.specs.Find.{ArcsGood};
+ghost use Rattle.meant.specs.Find.{ArcsGood};
 ghost use Rattle.marking.specs.Choosing.{Chose};
 
-use entryarcs::Plan;
+use meant::entryarcs::Plan;
+use meant::sheetrecords;
 
 // What was chosen: how many arcs, and the number and the place of the first one behind.
 #[derive(Clone, Copy)]

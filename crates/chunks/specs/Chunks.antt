@@ -15,10 +15,10 @@ use Rattle.history.proofs.EventLaws.{clash, none≢some}
 use Rattle.history.specs.Faults.{Fault}
 use Rattle.history.specs.Scan.{better, own_fault}
 use Rattle.history.specs.Sheet.{arc_slots}
-use Rattle.slots.specs.Slots.{values_of, sheet_at}
-use Rattle.meaning.specs.declared.Whom.{Whom}
-use Rattle.patching.specs.Group.{group_fault}
-use Rattle.patching.specs.Scratch.{Flags}
+use Rattle.meant.specs.Slots.{values_of, sheet_at}
+use Rattle.meant.specs.WhomType.{Whom}
+use Rattle.meant.specs.Group.{group_fault}
+use Rattle.meant.specs.Scratch.{Flags}
 use Rattle.arcrun.specs.declared.Least.{Least}
 use Rattle.arcrun.specs.declared.Least.TheVariants as least
 use Rattle.marking.specs.Parts.{part_no}

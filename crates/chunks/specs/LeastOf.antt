@@ -13,8 +13,8 @@ use Rattle.classes.specs.Choice.{pick, and, or}
 use Rattle.history.proofs.EventLaws.{clash}
 use Rattle.history.specs.Faults.{Fault}
 use Rattle.history.specs.Scan.{precedes, better}
-use Rattle.patching.specs.Group.{least_fault}
-use Rattle.patching.specs.GroupLaws.{better_assoc}
+use Rattle.meant.specs.Group.{least_fault}
+use Rattle.meant.specs.GroupLaws.{better_assoc}
 
 -- what it is to precede
 earlier : (g h : Fault) → precedes g h ≡ true → (g.event < h.event) ⊎ ((g.event ≡ h.event) × (g.number < h.number))

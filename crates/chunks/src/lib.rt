@@ -6,8 +6,8 @@ ghost use Rattle.swaparcs.specs.Loops.{ArcsRan, ArcsWritten};
 ghost use Rattle.seating.specs.Seating.{SwapFits, MarksCover};
 
 use arcrun::Least;
-use entryarcs::Plan;
-use meaning::Whom;
+use meant::entryarcs::Plan;
+use meant::meaning::Whom;
 use swaparcs::Swap;
 
 // The least fault of all arcs and of the incoming cell's own, so many arcs at a time.

@@ -23,8 +23,8 @@ use Rattle.laws.specs.Walk.{some_inj}
 use Rattle.laws.specs.Taken.{as_file, starting, Taken, toks, cell_words}
 use Rattle.laws.proofs.Behind.{Fed, fed}
 use Rattle.laws.proofs.Exactly.{read_exactly, cell_exactly, read_says}
-use Rattle.sound.specs.Sound.{Each, total, cell_sound}
-use Rattle.sound.specs.One.{cell_slash}
+use Rattle.patch.specs.Sound.{Each, total, cell_sound}
+use Rattle.patch.specs.One.{cell_slash}
 use Rattle.splice.specs.Moved.{move_at}
 use Rattle.splice.proofs.Moved.{move-none, move_some, move_cell, move_item}
 use Rattle.splice.proofs.OneCell.{Stands}
@@ -46,16 +46,16 @@ use Rattle.history.specs.Events.{Answer, sheet, refused}
 use Rattle.history.specs.Sheet.{Slot, Values, Cell, Cut, cut, behind, swapped}
 use Rattle.history.specs.Sheet as history
 use Rattle.history.specs.Places.{renamed_entry, renamed_cell, renamed_answer}
-use Rattle.slots.specs.Slots.{values_of, sheet_at}
-use Rattle.applying.specs.Instances.{records_at}
-use Rattle.applying.specs.Says.{name_at, entry_of, part_at, cell_of, cells_of}
-use Rattle.meaning.specs.CellList.{each_take, each-drop}
-use Rattle.meaning.specs.declared.Annotated.TheVariants as annotated
-use Rattle.meaning.specs.Meaning as annotating
-use Rattle.patching.specs.Where.{Where, at}
-use Rattle.arcrun.specs.CellRuns.{cells-length}
-use Rattle.swap.specs.declared.Patched.TheVariants as patched
-use Rattle.swap.specs.Swapped.{says_of, sheet_of}
+use Rattle.patch.specs.Slots.{values_of, sheet_at}
+use Rattle.patch.specs.Instances.{records_at}
+use Rattle.patch.specs.Says.{name_at, entry_of, part_at, cell_of, cells_of}
+use Rattle.patch.specs.CellList.{each_take, each-drop}
+use Rattle.patch.specs.Annotated.TheVariants as annotated
+use Rattle.patch.specs.Annotating as annotating
+use Rattle.patch.specs.Where.{Where, at}
+use Rattle.patch.specs.CellRuns.{cells-length}
+use Rattle.patch.specs.Patched.TheVariants as patched
+use Rattle.patch.specs.Swapped.{says_of, sheet_of}
 use Rattle.patch.specs.Meaning.{said, first_cell, Course, course, answer_of, current_of}
 use Rattle.patch.specs.Demand.{patch-is_annotating, accepted}
 use Rattle.demand.specs.Demand.{moved}

@@ -3,7 +3,7 @@
 use Prim.Native.Nat.{ℕ, ◌+◌, ◌-◌}
 use Rattle.std.specs.Prelude.{ltb}
 use Rattle.classes.specs.Choice.{pick}
-use Rattle.patching.specs.Where.{Where}
+use Rattle.patch.specs.Where.{Where}
 
 -- 1. Where a word stands
 

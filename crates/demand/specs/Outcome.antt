@@ -4,9 +4,9 @@ use Rattle.std.specs.Prelude.{ℕ, ◌≡◌, List}
 use Rattle.std.proofs.Common.{sym, ◌∙◌}
 use Rattle.grammar.specs.Machine.{Res}
 use Rattle.grammar.specs.Reading.{At}
-use Rattle.readcells.specs.declared.FileRead.{FileRead}
-use Rattle.readcells.specs.Files.{FileIs}
-use Rattle.swap.specs.declared.Patched.{Patched}
+use Rattle.patch.specs.FileRead.{FileRead}
+use Rattle.patch.specs.Files.{FileIs}
+use Rattle.patch.specs.Patched.{Patched}
 use Rattle.patch.specs.Meaning.{Course, PatchIs}
 
 -- ONE OUTCOME of a reading, of a file or of one cell: the answer, the divider, the scale, the header's texts and both tables

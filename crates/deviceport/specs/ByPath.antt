@@ -10,7 +10,7 @@ use Rattle.names.specs.Name.{canon, full, same_name, one_below, part_of, both}
 use Rattle.sheetparts.specs.Form.{key_at, path_at}
 use Rattle.sheetlaws.specs.Sheet.{place}
 use Rattle.grammar.specs.declared.Entry.{Entry}
-use Rattle.applying.specs.Bytes.{device_hit}
+use Rattle.entryarcs.specs.Bytes.{device_hit}
 use Rattle.entryarcs.specs.Turns.{hits}
 use Rattle.bytype.specs.ByType.{bucket_of}
 use Rattle.byend.specs.Ends.{below_bucket, end_bucket, one-below-bucket}

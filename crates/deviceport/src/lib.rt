@@ -3,9 +3,10 @@
 
 ghost use Rattle.std.specs.Prelude.{◌≡◌, true, false, ◌≤◌, ◌<◌, length, get_or};
 ghost use Rattle.sheetlaws.specs.Sheet.{in_end, place};
-ghost use Rattle.sheet.specs.Find.{ArcSearch};
+ghost use Rattle.entryarcs.specs.Find.{ArcSearch};
 ghost use Rattle.deviceport.specs.ByPath.{by_path};
 
+use entryarcs::sheetrecords;
 use grammar::Entry;
 
 const DEVICE: u8 = 4;

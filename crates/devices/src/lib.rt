@@ -2,13 +2,13 @@
 #![tactic(auto)]
 
 ghost use Rattle.std.specs.Prelude.{◌≡◌, true, false, ◌≤◌, ◌<◌};
-ghost use Rattle.sheet.specs.Find.{ArcSearch};
+ghost use Rattle.entryarcs.specs.Find.{ArcSearch};
 ghost use Rattle.byend.specs.Ends.{EndsIndexed, EndsReady};
-ghost use Rattle.applying.specs.Bytes.{device_refusal, device_written, refusal_in, written_in, applied_in};
-ghost use Rattle.applying.specs.Ready.{InReady};
+ghost use Rattle.entryarcs.specs.Bytes.{device_refusal, device_written, refusal_in, written_in, applied_in};
+ghost use Rattle.entryarcs.specs.Ready.{InReady};
 ghost use Rattle.deviceport.specs.ByPath.{by_path};
 
-use entryarcs::Plan;
+use entryarcs::{Plan, amounts, sheetrecords};
 use grammar::Entry;
 
 const DEVICE: u8 = 4;

@@ -6,11 +6,11 @@ use Rattle.classes.specs.Choice.{or}
 use Rattle.names.specs.Order.{same_text}
 use Rattle.sheetparts.specs.Form.{values_at, type_at}
 use Rattle.sheetlaws.specs.Sheet.{ar_next, in_end, nth, place}
-use Rattle.sheet.specs.Search.{nth-next}
-use Rattle.sheet.specs.Find.{ArcsGood, InsGood, arc_there, in_there, arc-found}
-use Rattle.sheet.specs.declared.Found.TheVariants.{At}
+use Rattle.applying.specs.Search.{nth-next}
+use Rattle.applying.specs.Find.{ArcsGood, InsGood, arc_there, in_there, arc-found}
+use Rattle.applying.specs.FoundType.TheVariants.{At}
 use Rattle.grammar.specs.declared.Entry.{Entry}
-use Rattle.amounts.specs.Amounts.{lesser, arc_refusal, arc_written}
+use Rattle.applying.specs.Amounts.{lesser, arc_refusal, arc_written}
 use Rattle.applying.specs.Bytes.{some_of, least_of, written_of, device_hit, arc_of, refusal_in, written_in}
 
 or-true : (t : Bool) → or t true ≡ true

@@ -5,12 +5,15 @@ ghost use Rattle.std.specs.Prelude.{◌≡◌, true, false, ◌+◌, ◌≤◌, 
 ghost use Rattle.names.specs.Order.{same_text};
 ghost use Rattle.sheetparts.specs.Form.{type_at};
 ghost use Rattle.sheetlaws.specs.Sheet.{in_end, ar_next};
-ghost use Rattle.sheet.specs.Find.{ArcSearch};
+ghost use Rattle.applying.specs.Find.{ArcSearch};
 ghost use Rattle.applying.specs.Bytes.{device_hit, arc_of, device_refusal, device_written};
 ghost use Rattle.applying.specs.Ready.{InReady};
 
+// What stands below, for the crates above.
+use applying::sheet::Found;
+pub use applying::{amounts, sheet};
 use grammar::Entry;
-use sheet::Found;
+pub use sheetrecords;
 
 const IOPATH: u8 = 1;
 

@@ -7,10 +7,10 @@ use Rattle.grammar.specs.Machine.{fine}
 use Rattle.grammar.specs.Meaning.{Item}
 use Rattle.grammar.specs.Reading.{At}
 use Rattle.grammar.specs.Outcome.{read_file, read_cell_of}
-use Rattle.sound.specs.Sound.{SoundItem, SoundLog, read_sound, cell_sound}
+use Rattle.meaning.specs.Sound.{SoundItem, SoundLog, read_sound, cell_sound}
 use Rattle.tables.specs.Layout.{values_row}
 use Rattle.tables.specs.Left.{entries_left}
-use Rattle.applying.specs.Rows.{EntryIs, head_is, count-is, words_are}
+use Rattle.meaning.specs.Rows.{EntryIs, head_is, count-is, words_are}
 use Rattle.meaning.specs.Entries.{no_item}
 use Rattle.meaning.specs.CellList.{each_at}
 use Rattle.meaning.specs.TableLaws.{tables_sound}

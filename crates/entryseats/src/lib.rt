@@ -4,16 +4,17 @@
 ghost use Rattle.std.specs.Prelude.{◌≡◌, false, ◌+◌, ◌*◌, ◌≤◌, ◌<◌, length, eqb};
 ghost use Rattle.classes.specs.Choice.{pick};
 ghost use Rattle.sheetlaws.specs.Sheet.{in_end};
-ghost use Rattle.sheet.specs.Find.{InstanceSearch, ArcSearch};
+ghost use Rattle.meant.specs.Find.{InstanceSearch, ArcSearch};
 ghost use Rattle.views.specs.Views.{head_at};
-ghost use Rattle.meaning.specs.Whom.{InSheet};
-ghost use Rattle.meaning.specs.declared.Whom.TheVariants.{One};
+ghost use Rattle.meant.specs.Whom.{InSheet};
+ghost use Rattle.meant.specs.WhomType.TheVariants.{One};
 ghost use Rattle.findseat.specs.Findseat.{InOrder};
 ghost use Rattle.nearby.specs.Seats.{There, EntryRun, EntriesSeatsRan};
 
 use arcrun::Least;
-use entryarcs::Plan;
-use meaning::Whom;
+use meant::amounts;
+use meant::entryarcs::Plan;
+use meant::meaning::Whom;
 
 const DEVICE: u8 = 4;
 

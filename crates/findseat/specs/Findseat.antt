@@ -3,7 +3,7 @@
 use Rattle.std.specs.Prelude.{ℕ, ◌<◌, ◌≤◌, ◌≡◌, Bool, false, List, get_or}
 use Rattle.sheetlaws.specs.Sheet.{place}
 use Rattle.grammar.specs.declared.Entry.{Entry}
-use Rattle.meaning.specs.declared.Whom.TheVariants.{One}
+use Rattle.meant.specs.WhomType.TheVariants.{One}
 use Rattle.meant.specs.Touch.{meant_for}
 
 -- the first `count` numbers rise

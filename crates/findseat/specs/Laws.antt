@@ -5,14 +5,14 @@ use Rattle.std.proofs.Common.{sym, ◌∙◌, arith, eqb-true, eq-eqb, ltb-true,
 use Rattle.wire.specs.Wire.{Bytes}
 use Rattle.sheetparts.specs.Form.{Key, key_at, cmp_key}
 use Rattle.sheetlaws.specs.Sheet.{ar_next, place}
-use Rattle.sheet.specs.Search.{search-more, finger}
-use Rattle.sheet.specs.Find.{find_arc, ArcsGood, arcs_rise, arc_there}
-use Rattle.sheet.specs.declared.Found.{Found}
-use Rattle.sheet.specs.declared.Found.TheVariants.{At, Nothing}
+use Rattle.meant.specs.Search.{search-more, finger}
+use Rattle.meant.specs.Find.{find_arc, ArcsGood, arcs_rise, arc_there}
+use Rattle.meant.specs.FoundType.{Found}
+use Rattle.meant.specs.FoundType.TheVariants.{At, Nothing}
 use Rattle.grammar.specs.declared.Entry.{Entry}
-use Rattle.applying.specs.Bytes.{arc_of}
-use Rattle.patching.specs.Meant.{meant_in}
-use Rattle.meaning.specs.declared.Whom.TheVariants.{One}
+use Rattle.meant.specs.Bytes.{arc_of}
+use Rattle.meant.specs.Meant.{meant_in}
+use Rattle.meant.specs.WhomType.TheVariants.{One}
 use Rattle.meant.specs.Touch.{meant_for}
 use Rattle.findseat.specs.Findseat.{Ascending, OnlyAt, InOrder, OnlySeat}
 

@@ -4,12 +4,13 @@
 ghost use Rattle.std.specs.Prelude.{◌≡◌, false, List, ℕ, ◌≤◌, eqb, length};
 ghost use Rattle.classes.specs.Choice.{pick};
 ghost use Rattle.sheetlaws.specs.Sheet.{in_end};
-ghost use Rattle.sheet.specs.Find.{ArcSearch};
+ghost use Rattle.meant.specs.Find.{ArcSearch};
 ghost use Rattle.findseat.specs.Findseat.{Ascending, OnlyAt, InOrder, OnlySeat};
 
-use entryarcs::Plan;
 use grammar::Entry;
-use sheet::Found;
+use meant::entryarcs;
+use meant::entryarcs::Plan;
+use meant::sheet::Found;
 
 // The seat with an arc's place, by halving; `count` if none has it.
 pub fn seat_at(arcs: &[usize; 4096], count: usize, place: usize) -> usize

@@ -4,7 +4,7 @@ use Rattle.std.specs.Prelude.{ℕ, ◌+◌, ◌*◌, ◌/◌, ◌%◌, ◌<◌, 
 use Rattle.sheetlaws.specs.Sheet.{place}
 use Rattle.grammar.specs.declared.Entry.{Entry}
 use Rattle.views.specs.Views.{head_at}
-use Rattle.meaning.specs.declared.Whom.{Whom}
+use Rattle.meant.specs.WhomType.{Whom}
 use Rattle.meant.specs.Touch.{meant_for}
 use Rattle.marking.specs.Chosen.{chosen}
 

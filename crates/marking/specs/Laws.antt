@@ -10,14 +10,14 @@ use Rattle.std.proofs.Math.Seq.{get_or-set_same, get_or-set_other, get_or-append
 use Rattle.std.proofs.lemmas.Bool.{eqb-false}
 use Rattle.wire.specs.Wire.{Bytes}
 use Rattle.sheetlaws.specs.Sheet.{place}
-use Rattle.sheet.specs.Find.{ArcsGood}
-use Rattle.sheet.specs.declared.Found.TheVariants.{At, Nothing}
+use Rattle.meant.specs.Find.{ArcsGood}
+use Rattle.meant.specs.FoundType.TheVariants.{At, Nothing}
 use Rattle.grammar.specs.declared.Entry.{Entry}
 use Rattle.views.specs.Views.{head_at}
 use Rattle.history.proofs.EventLaws.{clash}
-use Rattle.applying.specs.Bytes.{arc_of}
-use Rattle.meaning.specs.declared.Whom.{Whom}
-use Rattle.meaning.specs.declared.Whom.TheVariants.{One, Nobody}
+use Rattle.meant.specs.Bytes.{arc_of}
+use Rattle.meant.specs.WhomType.{Whom}
+use Rattle.meant.specs.WhomType.TheVariants.{One, Nobody}
 use Rattle.meant.specs.Touch.{meant_for}
 use Rattle.findseat.specs.Laws.{meant-found}
 use Rattle.marking.specs.Chosen.{chosen, chosen_with, chosen_without, chosen_none, get_d_front}

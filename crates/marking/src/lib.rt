@@ -5,15 +5,16 @@
 ghost use Rattle.std.specs.Prelude.{◌≡◌, ◌+◌, ◌*◌, ◌/◌, ◌%◌, ◌≤◌, ◌<◌, length, set};
 ghost use Rattle.classes.specs.Choice.{pick};
 ghost use Rattle.sheetlaws.specs.Sheet.{in_end};
-ghost use Rattle.sheet.specs.Find.{ArcsGood, ArcSearch, InstanceSearch};
-ghost use Rattle.meaning.specs.Whom.{InSheet};
-ghost use Rattle.meaning.specs.declared.Whom.TheVariants.{One};
+ghost use Rattle.meant.specs.Find.{ArcsGood, ArcSearch, InstanceSearch};
+ghost use Rattle.meant.specs.Whom.{InSheet};
+ghost use Rattle.meant.specs.WhomType.TheVariants.{One};
 ghost use Rattle.marking.specs.Choosing.{marked, Kept, EntryMarked, EntriesMarked};
 
-use entryarcs::Plan;
 use grammar::Entry;
-use meaning::Whom;
-use sheet::Found;
+use meant::entryarcs::Plan;
+use meant::meaning::Whom;
+use meant::sheet::Found;
+use meant::{entryarcs, sheetrecords};
 
 const DEVICE: u8 = 4;
 

@@ -7,9 +7,9 @@ use Rattle.std.proofs.Common.{sym, ◌∙◌, arith, zero-add, length-drop, drop
 use mathlib.Core.List.{List, [], ◌∷◌, ◌++◌, append_assoc}
 use Rattle.grammar.specs.declared.Cell as read
 use Rattle.grammar.specs.Meaning.{Item}
-use Rattle.sound.specs.Sound.{Each, SoundItem, total}
+use Rattle.entryarcs.specs.Sound.{Each, SoundItem, total}
 use Rattle.history.specs.Sheet.{Records, Cell, events, file_events, each}
-use Rattle.applying.specs.Says.{cell_of, cells_of}
+use Rattle.entryarcs.specs.Says.{cell_of, cells_of}
 use Rattle.meaning.specs.Entries.{no_item, EntriesAre}
 use Rattle.meaning.specs.Cells.{entries_before, no_cell, CellsAre}
 

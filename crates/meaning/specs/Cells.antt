@@ -7,12 +7,12 @@ use Rattle.sheetparts.specs.Form.{check_of}
 use Rattle.sheetparts.specs.declared.SheetCheck.TheVariants.{Good}
 use Rattle.grammar.specs.declared.Cell as read
 use Rattle.grammar.specs.Meaning.{Item}
-use Rattle.sound.specs.Sound.{Each, total}
+use Rattle.entryarcs.specs.Sound.{Each, total}
 use Rattle.history.specs.Sheet.{Values, events, file_events}
-use Rattle.slots.specs.Slots.{records_of, sheet_at, values_of}
+use Rattle.entryarcs.specs.Slots.{records_of, sheet_at, values_of}
 use Rattle.history.specs.Sheet as history
-use Rattle.applying.specs.Says.{cell_of, cells_of}
-use Rattle.applying.specs.Rows.{CellIs}
+use Rattle.entryarcs.specs.Says.{cell_of, cells_of}
+use Rattle.entryarcs.specs.Rows.{CellIs}
 use Rattle.meaning.specs.declared.Annotated.{Annotated}
 use Rattle.meaning.specs.declared.Annotated.TheVariants.{Done, Refused}
 use Rattle.meaning.specs.Entries.{Kept, Went, EntriesAre}

@@ -5,16 +5,16 @@ use Rattle.wire.specs.Wire.{Bytes}
 use Rattle.sheetparts.specs.Form.{check_of}
 use Rattle.sheetparts.specs.declared.SheetCheck.TheVariants.{Good}
 use Rattle.grammar.specs.Meaning.{Item, no_head}
-use Rattle.sound.specs.Sound.{Each, SoundItem}
+use Rattle.entryarcs.specs.Sound.{Each, SoundItem}
 use Rattle.views.specs.Views.{head_at}
 use Rattle.history.specs.Events.{Event, refused, folded}
 use Rattle.history.specs.Sheet.{Slot, Values, Cell, entry_event, slots_of}
 use Rattle.history.specs.Ranges.{InRange}
-use Rattle.slots.specs.Slots.{records_of, spelled, sheet_at}
-use Rattle.amounts.specs.Amounts.{expanded}
-use Rattle.applying.specs.Says.{entry_of}
-use Rattle.applying.specs.Rows.{EntryIs}
-use Rattle.applying.specs.Bytes.{refusal_in, applied_in, refusal_every, applied_every}
+use Rattle.entryarcs.specs.Slots.{records_of, spelled, sheet_at}
+use Rattle.entryarcs.specs.Amounts.{expanded}
+use Rattle.entryarcs.specs.Says.{entry_of}
+use Rattle.entryarcs.specs.Rows.{EntryIs}
+use Rattle.entryarcs.specs.Bytes.{refusal_in, applied_in, refusal_every, applied_every}
 use Rattle.meaning.specs.declared.Whom.{Whom}
 use Rattle.meaning.specs.declared.Whom.TheVariants.{One, Every, Nobody}
 use Rattle.meaning.specs.declared.Annotated.{Annotated}

@@ -4,3 +4,32 @@ pub mod Entries
 pub mod Cells
 pub mod CellList
 pub mod TableLaws
+-- What stands below, for the crates above.
+pub use Rattle.entryarcs.specs.One
+pub use Rattle.entryarcs.specs.Sound
+pub use Rattle.entryarcs.specs.Find
+pub use Rattle.entryarcs.specs.Same
+pub use Rattle.entryarcs.specs.Search
+pub use Rattle.entryarcs.specs.FoundType
+pub use Rattle.entryarcs.specs.SlotArcs
+pub use Rattle.entryarcs.specs.Current
+pub use Rattle.entryarcs.specs.FoundSlots
+pub use Rattle.entryarcs.specs.Numbers
+pub use Rattle.entryarcs.specs.Shapes
+pub use Rattle.entryarcs.specs.Slots
+pub use Rattle.entryarcs.specs.Spelled
+pub use Rattle.entryarcs.specs.Amounts
+pub use Rattle.entryarcs.specs.Expand
+pub use Rattle.entryarcs.specs.Laws
+pub use Rattle.entryarcs.specs.AmountTurns
+pub use Rattle.entryarcs.specs.Addressed
+pub use Rattle.entryarcs.specs.Below
+pub use Rattle.entryarcs.specs.Bytes
+pub use Rattle.entryarcs.specs.Instances
+pub use Rattle.entryarcs.specs.Judged
+pub use Rattle.entryarcs.specs.Ready
+pub use Rattle.entryarcs.specs.Rows
+pub use Rattle.entryarcs.specs.Says
+pub use Rattle.entryarcs.specs.Steps
+pub use Rattle.entryarcs.specs.Turns as ArcTurns
+pub use Rattle.entryarcs.specs.declared.Plan

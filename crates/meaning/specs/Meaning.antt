@@ -11,8 +11,8 @@ use Rattle.sheetlaws.specs.Sheet as bytes
 use Rattle.history.specs.Events.{Answer, sheet, refused}
 use Rattle.history.specs.Sheet.{Slot, Cell}
 use Rattle.history.specs.Sheet as history
-use Rattle.slots.specs.Slots.{records_of, values_of, spelled}
-use Rattle.applying.specs.Says.{cells_of}
+use Rattle.entryarcs.specs.Slots.{records_of, values_of, spelled}
+use Rattle.entryarcs.specs.Says.{cells_of}
 use Rattle.meaning.specs.declared.Annotated.{Annotated}
 use Rattle.meaning.specs.declared.Annotated.TheVariants.{Done, Refused}
 

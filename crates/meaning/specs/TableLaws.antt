@@ -9,9 +9,9 @@ use Rattle.grammar.specs.Meaning.{Item}
 use Rattle.grammar.specs.Reading.{At}
 use Rattle.grammar.specs.Outcome.{read_file}
 use Rattle.tables.specs.Layout.{cell_row, cell_rows, entry_row, entry_rows, length-cells, length_entries, length-entry}
-use Rattle.sound.specs.Sound.{SoundLog, total, read_sound}
+use Rattle.entryarcs.specs.Sound.{SoundLog, total, read_sound}
 use Rattle.tables.specs.Left.{cells_left, entries_left}
-use Rattle.applying.specs.Rows.{EntryIs, CellIs}
+use Rattle.entryarcs.specs.Rows.{EntryIs, CellIs}
 use Rattle.meaning.specs.Entries.{no_item, EntriesAre}
 use Rattle.meaning.specs.Cells.{entries_before, no_cell, CellsAre}
 use Rattle.meaning.specs.CellList.{before, before-is}

@@ -8,9 +8,9 @@ use Rattle.names.specs.Name.{canon, part_of}
 use Rattle.grammar.specs.declared.Cell as read
 use Rattle.sheetparts.specs.Form.{path_at, type_at}
 use Rattle.sheetlaws.specs.Sheet.{in_end, nth}
-use Rattle.sheet.specs.Find.{find_instance, InsGood, instance-found, in_there}
-use Rattle.sheet.specs.declared.Found.{Found}
-use Rattle.sheet.specs.declared.Found.TheVariants.{At, Nothing}
+use Rattle.entryarcs.specs.Find.{find_instance, InsGood, instance-found, in_there}
+use Rattle.entryarcs.specs.FoundType.{Found}
+use Rattle.entryarcs.specs.FoundType.TheVariants.{At, Nothing}
 use Rattle.history.specs.Sheet.{Cell, at, every}
 use Rattle.meaning.specs.declared.Whom.{Whom}
 use Rattle.meaning.specs.declared.Whom.TheVariants.{One, Every, Nobody}

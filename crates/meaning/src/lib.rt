@@ -2,12 +2,15 @@
 #![tactic(auto)]
 
 ghost use Rattle.std.specs.Prelude.{◌≡◌};
-ghost use Rattle.sheet.specs.Find.{InstanceSearch};
+ghost use Rattle.entryarcs.specs.Find.{InstanceSearch};
 ghost use Rattle.meaning.specs.Whom.{whom_of, InSheet};
 
+// What stands below, for the crates above.
+pub use entryarcs;
 use entryarcs::Plan;
+use entryarcs::sheet::Found;
+pub use entryarcs::{amounts, sheet, sheetrecords};
 use grammar::Cell;
-use sheet::Found;
 
 #[derive(Clone, Copy)]
 pub enum Annotated {

@@ -1,2 +1,43 @@
 pub mod Only
 pub mod Touch
+-- What stands below, for the crates above.
+pub use Rattle.meaning.specs.One
+pub use Rattle.meaning.specs.Sound
+pub use Rattle.meaning.specs.Find
+pub use Rattle.meaning.specs.Same
+pub use Rattle.meaning.specs.Search
+pub use Rattle.meaning.specs.FoundType
+pub use Rattle.meaning.specs.SlotArcs
+pub use Rattle.meaning.specs.Current
+pub use Rattle.meaning.specs.FoundSlots
+pub use Rattle.meaning.specs.Numbers
+pub use Rattle.meaning.specs.Shapes
+pub use Rattle.meaning.specs.Slots
+pub use Rattle.meaning.specs.Spelled
+pub use Rattle.meaning.specs.Amounts
+pub use Rattle.meaning.specs.Expand
+pub use Rattle.meaning.specs.Laws
+pub use Rattle.meaning.specs.AmountTurns
+pub use Rattle.meaning.specs.Addressed
+pub use Rattle.meaning.specs.Bytes
+pub use Rattle.meaning.specs.Instances
+pub use Rattle.meaning.specs.Judged
+pub use Rattle.meaning.specs.Rows
+pub use Rattle.meaning.specs.Says
+pub use Rattle.meaning.specs.Steps
+pub use Rattle.meaning.specs.ArcTurns
+pub use Rattle.meaning.specs.Plan
+pub use Rattle.patching.specs.Group
+pub use Rattle.patching.specs.GroupLaws
+pub use Rattle.patching.specs.Meant
+pub use Rattle.patching.specs.Own
+pub use Rattle.patching.specs.Scratch
+pub use Rattle.patching.specs.Where
+pub use Rattle.meaning.specs.CellList
+pub use Rattle.meaning.specs.Cells
+pub use Rattle.meaning.specs.Entries
+pub use Rattle.meaning.specs.Meaning as Annotating
+pub use Rattle.meaning.specs.TableLaws
+pub use Rattle.meaning.specs.Whom
+pub use Rattle.meaning.specs.declared.Annotated
+pub use Rattle.meaning.specs.declared.Whom as WhomType

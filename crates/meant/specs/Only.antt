@@ -14,12 +14,12 @@ use Rattle.names.specs.Laws.{name_exactly}
 use Rattle.grammar.specs.declared.Entry.{Entry}
 use Rattle.sheetparts.specs.Form.{Key, key_at, path_at, type_at, cmp_key}
 use Rattle.sheetlaws.specs.Sheet.{in_end, nth}
-use Rattle.sheet.specs.Search.{search-more, finger}
-use Rattle.sheet.specs.Find.{wanted, key-same, find_instance, instance-found, InsGood, ins_rise}
-use Rattle.sheet.specs.declared.Found.TheVariants.{At, Nothing}
+use Rattle.meaning.specs.Search.{search-more, finger}
+use Rattle.meaning.specs.Find.{wanted, key-same, find_instance, instance-found, InsGood, ins_rise}
+use Rattle.meaning.specs.FoundType.TheVariants.{At, Nothing}
 use Rattle.history.proofs.EventLaws.{clash}
-use Rattle.applying.specs.Bytes.{device_hit}
-use Rattle.applying.specs.Below.{not_so, below_none, below-some, some_any}
+use Rattle.meaning.specs.Bytes.{device_hit}
+use Rattle.meaning.specs.Below.{not_so, below_none, below-some, some_any}
 use Rattle.patching.specs.Meant.{meant_in, meant_every}
 
 -- an end without a name of this length and the `.` before it

@@ -5,16 +5,19 @@
 ghost use Rattle.std.specs.Prelude.{◌≡◌, ◌≤◌, ◌<◌, length};
 ghost use Rattle.classes.specs.Choice.{pick};
 ghost use Rattle.sheetlaws.specs.Sheet.{in_end, ar_next};
-ghost use Rattle.sheet.specs.Find.{InstanceSearch};
+ghost use Rattle.meaning.specs.Find.{InstanceSearch};
 ghost use Rattle.meaning.specs.Whom.{InSheet};
 ghost use Rattle.patching.specs.Meant.{meant_in, meant_every};
 ghost use Rattle.meant.specs.Only.{path_before, only_path, MeantOn};
 ghost use Rattle.meant.specs.Touch.{meant_for};
 
-use entryarcs::Plan;
+// What stands below, for the crates above.
 use grammar::Entry;
+pub use meaning;
 use meaning::Whom;
-use sheet::Found;
+use meaning::entryarcs::Plan;
+use meaning::sheet::Found;
+pub use meaning::{amounts, entryarcs, sheet, sheetrecords};
 
 const IOPATH: u8 = 1;
 

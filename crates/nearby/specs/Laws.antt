@@ -16,17 +16,17 @@ use Rattle.sheetparts.specs.Form.{Key, key_at, path_at, type_at, cmp_key}
 use Rattle.sheetlaws.specs.Sheet.{in_end, nth}
 use Rattle.views.specs.Views.{cell_at, head_at}
 use Rattle.history.proofs.EventLaws.{clash}
-use Rattle.meaning.specs.Cells.{entries_before}
+use Rattle.meant.specs.Cells.{entries_before}
 use Rattle.grammar.specs.declared.Entry.{Entry}
-use Rattle.sheet.specs.Find.{wanted, key-same}
-use Rattle.applying.specs.Bytes.{some_of, device_hit}
-use Rattle.meaning.specs.declared.Whom.{Whom}
-use Rattle.meaning.specs.declared.Whom.TheVariants.{One, Every, Nobody}
-use Rattle.meaning.specs.Whom.{whom_of}
-use Rattle.patching.specs.Meant.{may_touch, meant_in, meant_every}
-use Rattle.amounts.specs.Amounts.{lesser, arc_written}
-use Rattle.meaning.specs.Entries.{rows_at}
-use Rattle.patching.specs.Scratch.{masked}
+use Rattle.meant.specs.Find.{wanted, key-same}
+use Rattle.meant.specs.Bytes.{some_of, device_hit}
+use Rattle.meant.specs.WhomType.{Whom}
+use Rattle.meant.specs.WhomType.TheVariants.{One, Every, Nobody}
+use Rattle.meant.specs.Whom.{whom_of}
+use Rattle.meant.specs.Meant.{may_touch, meant_in, meant_every}
+use Rattle.meant.specs.Amounts.{lesser, arc_written}
+use Rattle.meant.specs.Entries.{rows_at}
+use Rattle.meant.specs.Scratch.{masked}
 use Rattle.arcrun.specs.declared.Least.{Least}
 use Rattle.arcrun.specs.declared.Least.TheVariants as least
 use Rattle.meant.specs.Touch.{meant_for}

@@ -8,8 +8,8 @@ use Rattle.sheetlaws.specs.Sheet.{ar_next}
 use Rattle.arcrun.specs.declared.Least.{Least}
 use Rattle.marking.specs.Parts.{part_no}
 use Rattle.arcrun.specs.declared.Least.TheVariants as least
-use Rattle.meaning.specs.declared.Whom.{Whom}
-use Rattle.patching.specs.Meant.{may_touch}
+use Rattle.meant.specs.WhomType.{Whom}
+use Rattle.meant.specs.Meant.{may_touch}
 use Rattle.arcrun.specs.Run.{entry_number, entry_state, EntriesRan, CellRan, CellsRan}
 use Rattle.arcrun.specs.Late.{EntriesLate, CellLate, CellsLate}
 

@@ -8,6 +8,7 @@ ghost use Rattle.sheetlaws.specs.Sheet.{ar_next};
 ghost use Rattle.nearby.specs.Seats.{agree, Ends, There, Common, NoneNear, kind_fits, NoneFits};
 
 use grammar::Cell;
+use meant::sheetrecords;
 
 const EVERY: u8 = 2;
 

@@ -5,12 +5,12 @@ ghost use Rattle.std.specs.Prelude.{◌≡◌, ◌+◌, ◌*◌, ◌≤◌, ◌<
 ghost use Rattle.std.proofs.Math.Seq.{paste};
 ghost use Rattle.classes.specs.Choice.{pick};
 ghost use Rattle.sheetlaws.specs.Sheet.{ar_next};
-ghost use Rattle.sheet.specs.Find.{InstanceSearch};
-ghost use Rattle.meaning.specs.Whom.{InSheet};
+ghost use Rattle.meant.specs.Find.{InstanceSearch};
+ghost use Rattle.meant.specs.Whom.{InSheet};
 ghost use Rattle.nearby.specs.Seats.{SeatRan};
 
-use entryarcs::Plan;
-use meaning::Whom;
+use meant::entryarcs::Plan;
+use meant::meaning::Whom;
 
 // The bytes of a seat's flags and of its values.
 const FLAGS: usize = 18;

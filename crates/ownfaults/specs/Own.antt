@@ -11,13 +11,13 @@ use Rattle.sheetparts.specs.declared.SheetCheck.TheVariants.{Good}
 use Rattle.history.specs.Events.{Event}
 use Rattle.history.specs.Scan.{own_fault}
 use Rattle.history.specs.Sheet.{Slot, Cell, entry_event, events}
-use Rattle.applying.specs.Says.{entry_of, cell_of}
-use Rattle.applying.specs.Rows.{CellIs}
-use Rattle.applying.specs.Instances.{records_at}
-use Rattle.meaning.specs.declared.Whom.{Whom}
-use Rattle.meaning.specs.declared.Whom.TheVariants.{Nobody}
-use Rattle.meaning.specs.Entries.{EntriesAre}
-use Rattle.patching.specs.Where.{Where, at}
+use Rattle.meant.specs.Says.{entry_of, cell_of}
+use Rattle.meant.specs.Rows.{CellIs}
+use Rattle.meant.specs.Instances.{records_at}
+use Rattle.meant.specs.WhomType.{Whom}
+use Rattle.meant.specs.WhomType.TheVariants.{Nobody}
+use Rattle.meant.specs.Entries.{EntriesAre}
+use Rattle.meant.specs.Where.{Where, at}
 use Rattle.arcrun.specs.declared.Least.{Least}
 use Rattle.arcrun.specs.declared.Least.TheVariants as least
 use Rattle.arcrun.specs.Run.{Of}

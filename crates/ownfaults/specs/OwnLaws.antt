@@ -14,37 +14,37 @@ use Rattle.names.specs.Order.{same_text}
 use Rattle.names.specs.Name.{canon, part_of}
 use Rattle.grammar.specs.declared.Cell as read
 use Rattle.grammar.specs.Meaning.{Item}
-use Rattle.sound.specs.Sound.{SoundItem}
+use Rattle.meant.specs.Sound.{SoundItem}
 use Rattle.tables.specs.Layout.{entry_row}
 use Rattle.sheetparts.specs.Form.{check_of, type_at}
 use Rattle.sheetparts.specs.declared.SheetCheck.TheVariants.{Good}
-use Rattle.sheet.specs.Find.{find_instance}
-use Rattle.sheet.specs.declared.Found.{Found}
-use Rattle.sheet.specs.declared.Found.TheVariants.{At, Nothing}
+use Rattle.meant.specs.Find.{find_instance}
+use Rattle.meant.specs.FoundType.{Found}
+use Rattle.meant.specs.FoundType.TheVariants.{At, Nothing}
 use Rattle.views.specs.Views.{cell_at}
 use Rattle.history.specs.Events.{Event}
 use Rattle.history.specs.Scan.{own_fault}
 use Rattle.history.specs.Sheet as part
 use Rattle.history.specs.Sheet.{Slot, Cell, lacks, cell_number, cell_event, entry_event, events, file_events}
-use Rattle.slots.specs.Slots.{values_of, spelled, sheet_at}
-use Rattle.slots.specs.Spelled.{start}
-use Rattle.slots.specs.Shapes.{values_in_range}
-use Rattle.applying.specs.Says.{entry_of, cell_of, part_at, name_at}
-use Rattle.applying.specs.Judged.{refusal_of}
-use Rattle.applying.specs.Rows.{EntryIs, cell-is, head_is, item-expanded}
-use Rattle.applying.specs.Instances.{records_at}
-use Rattle.applying.specs.Addressed.{cell_same, cell-every}
-use Rattle.applying.specs.Steps.{one-judged, every-judged}
-use Rattle.meaning.specs.declared.Whom.{Whom}
-use Rattle.meaning.specs.declared.Whom.TheVariants.{One, Every, Nobody}
-use Rattle.meaning.specs.Whom.{whom_of, typed_as}
-use Rattle.meaning.specs.Entries.{rows_at, refusal_for, no_item, EntriesAre}
-use Rattle.meaning.specs.Cells.{entries_before}
-use Rattle.meaning.specs.CellList.{each_at, before-is}
-use Rattle.patching.specs.Where.{Where, at}
-use Rattle.patching.specs.GroupLaws.{shifted}
-use Rattle.patching.specs.Own.{own_new, own_cell-some, own_cell-none, own_numbers-none, own_numbers-some, word_own}
-use Rattle.patching.specs.Meant.{refused_lacks}
+use Rattle.meant.specs.Slots.{values_of, spelled, sheet_at}
+use Rattle.meant.specs.Spelled.{start}
+use Rattle.meant.specs.Shapes.{values_in_range}
+use Rattle.meant.specs.Says.{entry_of, cell_of, part_at, name_at}
+use Rattle.meant.specs.Judged.{refusal_of}
+use Rattle.meant.specs.Rows.{EntryIs, cell-is, head_is, item-expanded}
+use Rattle.meant.specs.Instances.{records_at}
+use Rattle.meant.specs.Addressed.{cell_same, cell-every}
+use Rattle.meant.specs.Steps.{one-judged, every-judged}
+use Rattle.meant.specs.WhomType.{Whom}
+use Rattle.meant.specs.WhomType.TheVariants.{One, Every, Nobody}
+use Rattle.meant.specs.Whom.{whom_of, typed_as}
+use Rattle.meant.specs.Entries.{rows_at, refusal_for, no_item, EntriesAre}
+use Rattle.meant.specs.Cells.{entries_before}
+use Rattle.meant.specs.CellList.{each_at, before-is}
+use Rattle.meant.specs.Where.{Where, at}
+use Rattle.meant.specs.GroupLaws.{shifted}
+use Rattle.meant.specs.Own.{own_new, own_cell-some, own_cell-none, own_numbers-none, own_numbers-some, word_own}
+use Rattle.meant.specs.Meant.{refused_lacks}
 use Rattle.arcrun.specs.declared.Least.{Least}
 use Rattle.arcrun.specs.declared.Least.TheVariants as least
 use Rattle.arcrun.specs.Run.{Of}

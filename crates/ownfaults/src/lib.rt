@@ -2,14 +2,15 @@
 #![tactic(auto)]
 
 ghost use Rattle.std.specs.Prelude.{◌≡◌, ◌+◌, ◌*◌, ◌≤◌, ◌<◌, length, get_or};
-ghost use Rattle.sheet.specs.Find.{InsGood, InstanceSearch, ArcSearch};
-ghost use Rattle.meaning.specs.Whom.{InSheet};
-ghost use Rattle.meaning.specs.Entries.{refusal_for};
+ghost use Rattle.meant.specs.Find.{InsGood, InstanceSearch, ArcSearch};
+ghost use Rattle.meant.specs.Whom.{InSheet};
+ghost use Rattle.meant.specs.Entries.{refusal_for};
 ghost use Rattle.ownfaults.specs.Own.{OwnEntries, OwnIs};
 
 use arcrun::Least;
-use entryarcs::Plan;
-use meaning::Whom;
+use meant::entryarcs::Plan;
+use meant::meaning::Whom;
+use meant::{amounts, meaning};
 
 const CHECK: u8 = 84;
 

@@ -22,7 +22,7 @@ use Rattle.grammar.specs.Meaning.{Item}
 use Rattle.grammar.specs.Machine.{Res, fine, bad}
 use Rattle.grammar.specs.Reading.{At}
 use Rattle.grammar.specs.Outcome.{read_file, read_cell_of}
-use Rattle.sound.specs.Sound.{Each, SoundItem, read_sound}
+use Rattle.meant.specs.Sound.{Each, SoundItem, read_sound}
 use Rattle.sheetparts.specs.Form.{check_of, values_at}
 use Rattle.sheetparts.specs.declared.SheetCheck.{SheetCheck}
 use Rattle.sheetparts.specs.declared.SheetCheck.TheVariants.{Good, Bad}
@@ -30,9 +30,9 @@ use Rattle.sheetlaws.specs.Rule.{least}
 use Rattle.sheetlaws.specs.Sheet.{Sheet, place, ar_next, arcs_at, decode_of, decode}
 use Rattle.sheetlaws.specs.Sheet as bytes
 use Rattle.sheetlaws.specs.Sound.{below}
-use Rattle.sheet.specs.Find.{sheet_good}
-use Rattle.sheet.specs.Same.{same_records}
-use Rattle.sheet.specs.Same as same
+use Rattle.meant.specs.Find.{sheet_good}
+use Rattle.meant.specs.Same.{same_records}
+use Rattle.meant.specs.Same as same
 use Rattle.history.specs.Events.{Value, holds, final, Event, Answer, sheet, refused, left, history, affected}
 use Rattle.history.specs.Ranges.{InRange, Fits}
 use Rattle.history.proofs.Ranges.{history_in_range}
@@ -47,18 +47,18 @@ use Rattle.history.proofs.BySlots.{patch-by-slots}
 use Rattle.history.specs.Places.{renamed_entry, renamed_cell, renamed_answer}
 use Rattle.history.proofs.Places.{renamed-annotate}
 use Rattle.history.proofs.Demands.{demand_3}
-use Rattle.slots.specs.Slots.{meant, numeral, word_of, slot_number, slot_at, same_slot, put, arc_values, records_of, values_of, spelled, sheet_at}
-use Rattle.slots.specs.Numbers.{slot_number_lem, slot_at_lem, slot_below, word_time, value-fits, numeral-meant}
-use Rattle.slots.specs.Numbers as numbers
-use Rattle.slots.specs.Arcs.{arc_of_lem}
-use Rattle.slots.specs.Current.{current_spelled}
-use Rattle.slots.specs.Shapes.{values_in_range}
-use Rattle.slots.specs.Spelled.{start, length-spelled, room, spelled_same, word_set}
-use Rattle.applying.specs.Says.{name_at, entry_of, part_at, cell_of, cells_of}
-use Rattle.applying.specs.Instances.{records_at}
-use Rattle.meaning.specs.Meaning as annotating
-use Rattle.meaning.specs.CellList.{each_take, each-drop}
-use Rattle.patching.specs.Where.{Where, at}
+use Rattle.meant.specs.Slots.{meant, numeral, word_of, slot_number, slot_at, same_slot, put, arc_values, records_of, values_of, spelled, sheet_at}
+use Rattle.meant.specs.Numbers.{slot_number_lem, slot_at_lem, slot_below, word_time, value-fits, numeral-meant}
+use Rattle.meant.specs.Numbers as numbers
+use Rattle.meant.specs.SlotArcs.{arc_of_lem}
+use Rattle.meant.specs.Current.{current_spelled}
+use Rattle.meant.specs.Shapes.{values_in_range}
+use Rattle.meant.specs.Spelled.{start, length-spelled, room, spelled_same, word_set}
+use Rattle.meant.specs.Says.{name_at, entry_of, part_at, cell_of, cells_of}
+use Rattle.meant.specs.Instances.{records_at}
+use Rattle.meant.specs.Annotating as annotating
+use Rattle.meant.specs.CellList.{each_take, each-drop}
+use Rattle.meant.specs.Where.{Where, at}
 use Rattle.arcrun.specs.RunLaws.{gives_fits}
 use Rattle.arcrun.specs.CellRuns.{cells-length}
 use Rattle.swap.specs.Swapped.{says_of, sheet_of}

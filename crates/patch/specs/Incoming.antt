@@ -7,18 +7,18 @@ use Rattle.grammar.specs.Meaning.{Item}
 use Rattle.grammar.specs.Machine.{Res, fine, bad}
 use Rattle.grammar.specs.Reading.{At}
 use Rattle.grammar.specs.Outcome.{read_cell_of}
-use Rattle.sound.specs.Sound.{total}
+use Rattle.meant.specs.Sound.{total}
 use Rattle.tables.specs.Left.{cells_left, entries_left}
 use Rattle.sheetparts.specs.Form.{check_of}
 use Rattle.sheetparts.specs.declared.SheetCheck.TheVariants.{Good}
 use Rattle.history.specs.Sheet as history
 use Rattle.history.specs.Sheet.{Values}
-use Rattle.slots.specs.Slots.{values_of, spelled, sheet_at}
-use Rattle.applying.specs.Says.{cells_of}
-use Rattle.applying.specs.Instances.{records_at}
-use Rattle.meaning.specs.Entries.{EntriesAre}
-use Rattle.meaning.specs.Cells.{CellsAre}
-use Rattle.patching.specs.Where.{at}
+use Rattle.meant.specs.Slots.{values_of, spelled, sheet_at}
+use Rattle.meant.specs.Says.{cells_of}
+use Rattle.meant.specs.Instances.{records_at}
+use Rattle.meant.specs.Entries.{EntriesAre}
+use Rattle.meant.specs.Cells.{CellsAre}
+use Rattle.meant.specs.Where.{at}
 use Rattle.swap.specs.declared.Patched.{Patched}
 use Rattle.swap.specs.declared.Patched.TheVariants as patched
 use Rattle.swap.specs.Swapped.{says_of, sheet_of}

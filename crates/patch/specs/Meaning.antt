@@ -9,14 +9,14 @@ use Rattle.tables.specs.Left.{cells_left, entries_left}
 use Rattle.sheetparts.specs.Form.{check_of}
 use Rattle.sheetparts.specs.declared.SheetCheck.{SheetCheck}
 use Rattle.sheetparts.specs.declared.SheetCheck.TheVariants as check
-use Rattle.sheet.specs.Same.{same_records}
+use Rattle.meant.specs.Same.{same_records}
 use Rattle.history.specs.Events.{Answer}
 use Rattle.history.specs.Sheet.{Slot, Cell}
 use Rattle.history.specs.Sheet as history
-use Rattle.slots.specs.Slots.{records_of, values_of, sheet_at}
-use Rattle.applying.specs.Says.{cell_of, cells_of}
-use Rattle.meaning.specs.Cells.{no_cell}
-use Rattle.patching.specs.Where.{Where, at}
+use Rattle.meant.specs.Slots.{records_of, values_of, sheet_at}
+use Rattle.meant.specs.Says.{cell_of, cells_of}
+use Rattle.meant.specs.Cells.{no_cell}
+use Rattle.meant.specs.Where.{Where, at}
 use Rattle.swap.specs.declared.Patched.{Patched}
 use Rattle.swap.specs.declared.Patched.TheVariants as patched
 use Rattle.swap.specs.Swapped.{says_of, sheet_of}

@@ -15,8 +15,8 @@ use Rattle.grammar.specs.Machine.{Res, fine, bad}
 use Rattle.grammar.specs.Meaning.{Item}
 use Rattle.grammar.specs.Reading.{At}
 use Rattle.grammar.specs.Outcome.{read_file, read_cell_of}
-use Rattle.sound.specs.Sound.{total, cell_sound}
-use Rattle.sound.specs.One.{one_cell, cell_slash}
+use Rattle.meant.specs.Sound.{total, cell_sound}
+use Rattle.meant.specs.One.{one_cell, cell_slash}
 use Rattle.tables.specs.Left.{cells_left, entries_left}
 use Rattle.readcells.specs.Files.{FileIs, unit_of}
 use Rattle.readcells.specs.Files as files
@@ -24,17 +24,17 @@ use Rattle.readcells.specs.declared.Answer.TheVariants as answer
 use Rattle.readcells.specs.declared.FileRead.{FileRead}
 use Rattle.sheetparts.specs.Form.{check_of}
 use Rattle.sheetparts.specs.declared.SheetCheck.TheVariants.{Good, Bad}
-use Rattle.sheet.specs.Same.{same_records}
+use Rattle.meant.specs.Same.{same_records}
 use Rattle.history.specs.Sheet.{Cell}
-use Rattle.slots.specs.Slots.{values_of, sheet_at}
-use Rattle.slots.specs.Current.{current_spelled}
-use Rattle.applying.specs.Says.{cell_of, cells_of}
-use Rattle.applying.specs.Rows.{CellIs}
-use Rattle.meaning.specs.Entries.{EntriesAre}
-use Rattle.meaning.specs.Cells.{entries_before, CellsAre}
-use Rattle.meaning.specs.TableLaws.{Tables, tables_sound}
+use Rattle.meant.specs.Slots.{values_of, sheet_at}
+use Rattle.meant.specs.Current.{current_spelled}
+use Rattle.meant.specs.Says.{cell_of, cells_of}
+use Rattle.meant.specs.Rows.{CellIs}
+use Rattle.meant.specs.Entries.{EntriesAre}
+use Rattle.meant.specs.Cells.{entries_before, CellsAre}
+use Rattle.meant.specs.TableLaws.{Tables, tables_sound}
 use Rattle.annotate.specs.TextLaws.{read_tables}
-use Rattle.patching.specs.Where.{at}
+use Rattle.meant.specs.Where.{at}
 use Rattle.swaparcs.specs.declared.Swap.{Swap}
 use Rattle.swaparcs.specs.Swap.{Given, olds, comer}
 use Rattle.swaparcs.specs.Loops.{SwapReady}

@@ -4,17 +4,25 @@
 ghost use Rattle.std.specs.Prelude.{◌≡◌, true, ◌*◌, ◌/◌, ◌≤◌, ◌<◌, length};
 ghost use Rattle.sheetparts.specs.Form.{check_of};
 ghost use Rattle.sheetparts.specs.declared.SheetCheck.TheVariants.{Good};
-ghost use Rattle.sheet.specs.Same.{same_records};
+ghost use Rattle.meant.specs.Same.{same_records};
 ghost use Rattle.grammar.specs.Outcome.{read_cell_of};
-ghost use Rattle.meaning.specs.Cells.{entries_before};
+ghost use Rattle.meant.specs.Cells.{entries_before};
 ghost use Rattle.patch.specs.Incoming.{CellPatched};
 ghost use Rattle.swap.specs.declared.Patched.TheVariants.{Refused};
 ghost use Rattle.patch.specs.Meaning.{course, PatchIs};
 ghost use Rattle.patch.specs.Counted.{cells_read, CountedIs};
 
-use entryarcs::Plan;
+// What stands below, for the crates above.
+pub use annotate;
+use meant::entryarcs::Plan;
+pub use meant::meaning;
+use meant::sheet;
+pub use onecell;
+pub use readcells;
 use readcells::Answer;
+pub use reader;
 use sheetparts::SheetCheck;
+pub use swap;
 use swap::Patched;
 use swaparcs::Swap;
 

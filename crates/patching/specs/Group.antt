@@ -6,7 +6,7 @@ use Rattle.classes.specs.Choice.{pick, and}
 use Rattle.history.specs.Events.{Value, step, final, fails_with, any_of, Event}
 use Rattle.history.specs.Faults.{Fault, later}
 use Rattle.history.specs.Scan.{better}
-use Rattle.amounts.specs.Laws.{first_of}
+use Rattle.applying.specs.Laws.{first_of}
 
 module _ {Slot Word : Type 0} (group : List Slot) (touched : Slot → Bool) where
   -- some touched slot of the group fails at this event with this number

@@ -11,7 +11,7 @@ use Rattle.std.proofs.Math.Option.{Option, none, some}
 use Rattle.std.proofs.Math.Logic.{⊎_elim}
 use Prim.Native.Nat.{ℕ, zero, suc, ◌+◌, ◌≤◌, ◌<◌}
 use Rattle.classes.specs.Choice.{pick, or, and}
-use Rattle.amounts.specs.Laws.{first_of}
+use Rattle.applying.specs.Laws.{first_of}
 use Rattle.history.specs.Events.{Value, Supply, nothing, Held, holds, fails, step, next, final, fails_with, any_of, Event, history, lenient}
 use Rattle.history.proofs.EventLaws.{clash, none≢some, any_false, any_cong, any_none, step_fine}
 use Rattle.history.specs.Faults.{Fault, later}

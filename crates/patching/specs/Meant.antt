@@ -16,7 +16,7 @@ use Rattle.names.specs.Laws.{name_exactly}
 use Rattle.sheetparts.specs.Form.{key_at, path_at, type_at, cmp_key, check_of}
 use Rattle.sheetparts.specs.declared.SheetCheck.TheVariants.{Good}
 use Rattle.sheetlaws.specs.Sheet.{in_end, nth, place}
-use Rattle.sheet.specs.Find.{wanted, key_order, key-same}
+use Rattle.applying.specs.Find.{wanted, key_order, key-same}
 use Rattle.grammar.specs.declared.Entry as read-entry
 use Rattle.grammar.specs.declared.Cell as read_cell
 use Rattle.grammar.specs.Meaning.{Item}
@@ -24,8 +24,8 @@ use Rattle.history.specs.Sheet.{Instance, Key, Records, Values, Entry, Cell, at,
 use Rattle.history.proofs.Addressing.{matches-key}
 use Rattle.history.specs.Events.{any_of}
 use Rattle.history.proofs.EventLaws.{clash, any_none, any_false, none≢some}
-use Rattle.slots.specs.Slots.{as_key}
-use Rattle.amounts.specs.Laws.{first_of}
+use Rattle.applying.specs.Slots.{as_key}
+use Rattle.applying.specs.Laws.{first_of}
 use Rattle.applying.specs.Says.{name_at, entry_of, part_at, cell_of}
 use Rattle.applying.specs.Judged.{arc_is, fails_at, refusal_of, arc_addressed}
 use Rattle.applying.specs.Bytes.{some_of, device_hit}

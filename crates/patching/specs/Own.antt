@@ -7,7 +7,7 @@ use mathlib.Core.List.{List, [], ◌∷◌, ◌++◌, map}
 use Rattle.std.proofs.Math.Option.{Option, none, some}
 use Prim.Native.Nat.{ℕ, zero, suc, ◌+◌, ◌<◌}
 use Rattle.std.proofs.Math.ListN.{get_elem?, length-map}
-use Rattle.sound.specs.Sound.{Each}
+use Rattle.applying.specs.Sound.{Each}
 use Rattle.history.specs.Events.{when, Event, lenient}
 use Rattle.history.proofs.EventLaws.{none≢some, some_inj}
 use Rattle.history.specs.Faults.{Fault, later}

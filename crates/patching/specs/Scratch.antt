@@ -24,12 +24,12 @@ use Rattle.sheetlaws.specs.Sheet.{place}
 use Rattle.history.specs.Events.{limit, Value, holds, fails, summed, step, final, fails_with, supplied, any_of}
 use Rattle.history.specs.Ranges.{InRange}
 use Rattle.history.specs.Sheet.{Slot, Values, Group, absolute, increment, check, Entry, each, giving, below, arc_slots}
-use Rattle.slots.specs.Slots.{numeral, word_of, slot_number, slot_at, same_slot, put, values_of, spelled, sheet_at}
-use Rattle.slots.specs.Numbers.{slot_number_lem, slot_at_lem, slot_below, value-fits}
-use Rattle.slots.specs.Spelled.{start, room-all, spelled_same, word_set, word_get}
-use Rattle.slots.specs.Shapes.{values_in_range}
-use Rattle.amounts.specs.Amounts.{empty, lesser, given, refusal, changed, arc_refusal, value_written, arc_written}
-use Rattle.amounts.specs.Laws.{first_of, lesser-first, held_refusal, held_first, is_add, word_is-empty, given-none, refusal_is, changed-is}
+use Rattle.applying.specs.Slots.{numeral, word_of, slot_number, slot_at, same_slot, put, values_of, spelled, sheet_at}
+use Rattle.applying.specs.Numbers.{slot_number_lem, slot_at_lem, slot_below, value-fits}
+use Rattle.applying.specs.Spelled.{start, room-all, spelled_same, word_set, word_get}
+use Rattle.applying.specs.Shapes.{values_in_range}
+use Rattle.applying.specs.Amounts.{empty, lesser, given, refusal, changed, arc_refusal, value_written, arc_written}
+use Rattle.applying.specs.Laws.{first_of, lesser-first, held_refusal, held_first, is_add, word_is-empty, given-none, refusal_is, changed-is}
 use Rattle.applying.specs.Judged.{any_below, supply}
 use Rattle.applying.specs.Arcs.{number, Expanded}
 

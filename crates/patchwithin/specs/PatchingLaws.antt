@@ -8,12 +8,12 @@ use Rattle.grammar.specs.declared.Cell.{Cell}
 use Rattle.grammar.specs.Machine.{Res, fine, bad, bad≢fine}
 use Rattle.grammar.specs.Reading.{At}
 use Rattle.grammar.specs.Outcome.{read_file, read_cell_of}
-use Rattle.sound.specs.Sound.{read_sound, cell_sound}
+use Rattle.patch.specs.Sound.{read_sound, cell_sound}
 use Rattle.tables.specs.Left.{cells_left}
 use Rattle.sheetparts.specs.Form.{check_of}
 use Rattle.sheetparts.specs.declared.SheetCheck.{SheetCheck}
 use Rattle.sheetparts.specs.declared.SheetCheck.TheVariants as check
-use Rattle.sheet.specs.Same.{same_records}
+use Rattle.patch.specs.Same.{same_records}
 use Rattle.cellrecords.specs.Records.{records_of}
 use Rattle.readrecords.specs.Reading.{room_for, records_left}
 use Rattle.readrecords.proofs.ReadingLaws.{Sounds, left_is, fit_of, part_left}

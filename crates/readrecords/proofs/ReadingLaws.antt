@@ -5,12 +5,12 @@ use Rattle.std.proofs.Common.{sym, ap, ◌∙◌, append_assoc, arith, length-ap
 use Rattle.grammar.specs.declared.Cell.{Cell}
 use Rattle.grammar.specs.Machine.{Res, fine, bad}
 use Rattle.grammar.specs.Reading.{At}
-use Rattle.sound.specs.Sound.{SoundLog}
+use Rattle.meaning.specs.Sound.{SoundLog}
 use Rattle.tables.specs.Layout.{cell_rows, length-cells}
 use Rattle.readcells.specs.declared.FileRead.{FileRead}
 use Rattle.tables.specs.Left.{cells_left}
 use Rattle.readcells.specs.Files.{FileIs, answer_of}
-use Rattle.applying.specs.Rows.{cell-is}
+use Rattle.meaning.specs.Rows.{cell-is}
 use Rattle.meaning.specs.Cells.{CellsAre}
 use Rattle.meaning.specs.CellList.{each_at}
 use Rattle.meaning.specs.TableLaws.{tables_sound}

@@ -7,7 +7,7 @@ use Rattle.grammar.specs.declared.Cell.{Cell}
 use Rattle.grammar.specs.Machine.{Res, fine, bad}
 use Rattle.grammar.specs.Reading.{At}
 use Rattle.grammar.specs.Outcome.{read_file}
-use Rattle.sound.specs.Sound.{read_sound}
+use Rattle.meaning.specs.Sound.{read_sound}
 use Rattle.sheetlaws.specs.Sheet.{Sheet, Decoded, decode}
 use Rattle.sheetlaws.specs.Sheet as bytes
 use Rattle.annotate.specs.declared.Counted.{Counted}

@@ -3,11 +3,11 @@
 use Rattle.std.specs.Prelude.{ℕ, zero, suc, ◌<◌, ◌≡◌, Bool, true, List, length, get_or, take, drop}
 use Rattle.sheetparts.specs.Form.{values_at}
 use Rattle.sheetlaws.specs.Sheet.{place}
-use Rattle.sheet.specs.Find.{InstanceSearch, ArcSearch}
-use Rattle.entryarcs.specs.declared.Plan.{Plan}
-use Rattle.meaning.specs.declared.Whom.{Whom}
-use Rattle.meaning.specs.Whom.{InSheet}
-use Rattle.patching.specs.Scratch.{back_written}
+use Rattle.meant.specs.Find.{InstanceSearch, ArcSearch}
+use Rattle.meant.specs.Plan.{Plan}
+use Rattle.meant.specs.WhomType.{Whom}
+use Rattle.meant.specs.Whom.{InSheet}
+use Rattle.meant.specs.Scratch.{back_written}
 use Rattle.arcrun.specs.declared.Least.{Least}
 use Rattle.arcrun.specs.declared.Least.TheVariants as least
 use Rattle.arcrun.specs.Run.{CellsRan}

@@ -11,8 +11,8 @@ use Rattle.sheetparts.specs.Form.{values_at}
 use Rattle.sheetlaws.specs.Sheet.{ar_next, place}
 use Rattle.history.proofs.EventLaws.{clash}
 use Rattle.views.specs.Views.{head_at}
-use Rattle.meaning.specs.declared.Whom.{Whom}
-use Rattle.patching.specs.Scratch.{back_written}
+use Rattle.meant.specs.WhomType.{Whom}
+use Rattle.meant.specs.Scratch.{back_written}
 use Rattle.arcrun.specs.declared.Least.{Least}
 use Rattle.arcrun.specs.declared.Least.TheVariants as least
 use Rattle.meant.specs.Touch.{meant_for, entries_touched}

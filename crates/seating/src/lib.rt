@@ -6,8 +6,9 @@ ghost use Rattle.findseat.specs.Findseat.{InOrder};
 ghost use Rattle.nearby.specs.Seats.{There};
 ghost use Rattle.seating.specs.Seating.{SwapFits, MarksCover, FlagsSeated, StatesLoaded, backs};
 
-use entryarcs::Plan;
-use meaning::Whom;
+use meant::entryarcs::Plan;
+use meant::meaning::Whom;
+use meant::sheetrecords;
 use swaparcs::Swap;
 
 // Marks the arcs that the outgoing or the incoming cell means.

@@ -4,13 +4,14 @@
 
 ghost use Rattle.std.specs.Prelude.{◌≡◌, false, ◌+◌, ◌*◌, ◌≤◌, ◌<◌, length, get_or};
 ghost use Rattle.classes.specs.Choice.{pick};
-ghost use Rattle.sheet.specs.Find.{InstanceSearch, ArcSearch};
-ghost use Rattle.meaning.specs.Cells.{entries_before};
+ghost use Rattle.meant.specs.Find.{InstanceSearch, ArcSearch};
+ghost use Rattle.meant.specs.Cells.{entries_before};
 ghost use Rattle.findseat.specs.Findseat.{InOrder};
 ghost use Rattle.nearby.specs.Seats.{Common, SeatsRan, CellsSeatsRan};
 
 use arcrun::Least;
-use entryarcs::Plan;
+use meant::entryarcs::Plan;
+use meant::meaning;
 
 // Takes the values of all seats through a cell, whose keyword is an event's number: the least fault of them all.
 pub fn run_seats<'a>(

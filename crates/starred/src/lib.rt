@@ -4,10 +4,10 @@
 ghost use Rattle.std.specs.Prelude.{◌≡◌, ◌≤◌};
 ghost use Rattle.bytype.specs.ByType.{Indexed, IndexReady};
 ghost use Rattle.byend.specs.Ends.{EndsReady};
-ghost use Rattle.applying.specs.Bytes.{refusal_every, written_every, applied_every};
-ghost use Rattle.applying.specs.Ready.{Ready};
+ghost use Rattle.entryarcs.specs.Bytes.{refusal_every, written_every, applied_every};
+ghost use Rattle.entryarcs.specs.Ready.{Ready};
 
-use entryarcs::Plan;
+use entryarcs::{Plan, amounts};
 use grammar::Entry;
 
 // How many instances the index has room for.

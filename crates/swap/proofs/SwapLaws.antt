@@ -21,19 +21,19 @@ use Rattle.history.proofs.Scan.{word_answer, fault_answer}
 use Rattle.history.specs.Sheet.{Values, arc_slots, cut, behind}
 use Rattle.history.specs.Sheet as history
 use Rattle.history.proofs.BySlots.{patch-by-slots}
-use Rattle.slots.specs.Slots.{values_of, sheet_at}
-use Rattle.slots.specs.Spelled.{spelled_same}
-use Rattle.slots.specs.Found.{arcs_length}
-use Rattle.applying.specs.Says.{cell_of, cells_of}
-use Rattle.applying.specs.Rows.{cell-is}
-use Rattle.applying.specs.Instances.{records_at}
-use Rattle.meaning.specs.declared.Whom.{Whom}
-use Rattle.meaning.specs.Whom.{whom_of}
-use Rattle.meaning.specs.Cells.{no_cell}
-use Rattle.meaning.specs.CellList.{each_at, before, cell_no, cells_at}
-use Rattle.patching.specs.Where.{at}
-use Rattle.patching.specs.Group.{group_fault, least_fault}
-use Rattle.patching.specs.GroupLaws.{all-scan}
+use Rattle.meant.specs.Slots.{values_of, sheet_at}
+use Rattle.meant.specs.Spelled.{spelled_same}
+use Rattle.meant.specs.FoundSlots.{arcs_length}
+use Rattle.meant.specs.Says.{cell_of, cells_of}
+use Rattle.meant.specs.Rows.{cell-is}
+use Rattle.meant.specs.Instances.{records_at}
+use Rattle.meant.specs.WhomType.{Whom}
+use Rattle.meant.specs.Whom.{whom_of}
+use Rattle.meant.specs.Cells.{no_cell}
+use Rattle.meant.specs.CellList.{each_at, before, cell_no, cells_at}
+use Rattle.meant.specs.Where.{at}
+use Rattle.meant.specs.Group.{group_fault, least_fault}
+use Rattle.meant.specs.GroupLaws.{all-scan}
 use Rattle.arcrun.specs.declared.Least.{Least}
 use Rattle.arcrun.specs.declared.Least.TheVariants as least
 use Rattle.arcrun.specs.CellRuns.{cells-length, whom_of_lem}

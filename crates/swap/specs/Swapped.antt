@@ -7,9 +7,9 @@ use Rattle.sheetparts.specs.declared.SheetCheck.TheVariants.{Good}
 use Rattle.history.specs.Events.{Answer, sheet, refused}
 use Rattle.history.specs.Sheet as history
 use Rattle.history.specs.Sheet.{Slot, Values}
-use Rattle.slots.specs.Slots.{values_of, spelled, sheet_at}
-use Rattle.applying.specs.Instances.{records_at}
-use Rattle.patching.specs.Where.{Where, at}
+use Rattle.meant.specs.Slots.{values_of, spelled, sheet_at}
+use Rattle.meant.specs.Instances.{records_at}
+use Rattle.meant.specs.Where.{Where, at}
 use Rattle.arcrun.specs.declared.Least.{Least}
 use Rattle.arcrun.specs.declared.Least.TheVariants as least
 use Rattle.swaparcs.specs.declared.Swap.{Swap}

@@ -11,7 +11,8 @@ ghost use Rattle.swap.specs.Swapped.{answer_by, SwapRun};
 ghost use Rattle.swap.specs.declared.Patched.TheVariants.{Refused};
 
 use arcrun::Least;
-use entryarcs::Plan;
+use meant::entryarcs::Plan;
+use meant::{meaning, sheet};
 use swaparcs::Swap;
 
 // The answer: done, or the number of the refusal, its place and whether it is in the incoming text.

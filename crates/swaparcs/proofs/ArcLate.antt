@@ -16,13 +16,13 @@ use Rattle.history.specs.Faults.{Fault}
 use Rattle.history.specs.Scan.{better}
 use Rattle.history.specs.BySlots.{new_events}
 use Rattle.history.specs.Sheet.{Slot, Values, arc_slots, events, file_events}
-use Rattle.slots.specs.Slots.{values_of, sheet_at}
-use Rattle.applying.specs.Instances.{records_at}
-use Rattle.patching.specs.Where.{Where, at}
-use Rattle.patching.specs.Group.{group_fault, group_left}
-use Rattle.patching.specs.GroupLaws.{left-lenient, fault_lenient}
-use Rattle.patching.specs.Scratch.{Flags, scratch_start}
-use Rattle.patching.specs.Own.{lenient-length}
+use Rattle.meant.specs.Slots.{values_of, sheet_at}
+use Rattle.meant.specs.Instances.{records_at}
+use Rattle.meant.specs.Where.{Where, at}
+use Rattle.meant.specs.Group.{group_fault, group_left}
+use Rattle.meant.specs.GroupLaws.{left-lenient, fault_lenient}
+use Rattle.meant.specs.Scratch.{Flags, scratch_start}
+use Rattle.meant.specs.Own.{lenient-length}
 use Rattle.arcrun.specs.declared.Least.TheVariants as least
 use Rattle.arcrun.specs.Run.{CellRan, CellsRan}
 use Rattle.arcrun.specs.Late.{Late, CellLate, CellsLate, late_append, late_on}

@@ -17,18 +17,18 @@ use Rattle.history.specs.Faults.{Fault}
 use Rattle.history.specs.Scan.{better, own_fault}
 use Rattle.history.specs.BySlots.{new_events}
 use Rattle.history.specs.Sheet.{Slot, Values, arc_slots, events, file_events}
-use Rattle.slots.specs.Slots.{slot_number, slot_at, values_of, spelled, sheet_at}
-use Rattle.slots.specs.Numbers.{slot_at_lem, slot_below, slots_at, slots_length}
-use Rattle.slots.specs.Spelled.{spelled_same}
-use Rattle.applying.specs.Instances.{records_at}
-use Rattle.meaning.specs.declared.Whom.{Whom}
-use Rattle.meaning.specs.Cells.{no_cell}
-use Rattle.meaning.specs.CellList.{before, before-is, entries_part}
-use Rattle.patching.specs.Where.{Where, at}
-use Rattle.patching.specs.Group.{group_fault, group_left, least_fault}
-use Rattle.patching.specs.GroupLaws.{better-nothing, shifted, left-append, fault_append-none, fault_append-some, left-lenient, fault_lenient, group_none, group_holds}
-use Rattle.patching.specs.Scratch.{Holds18, Flags, scratch_start, back_written, back_written_lem}
-use Rattle.patching.specs.Own.{lenient-length, word_before, word_own, word_behind}
+use Rattle.meant.specs.Slots.{slot_number, slot_at, values_of, spelled, sheet_at}
+use Rattle.meant.specs.Numbers.{slot_at_lem, slot_below, slots_at, slots_length}
+use Rattle.meant.specs.Spelled.{spelled_same}
+use Rattle.meant.specs.Instances.{records_at}
+use Rattle.meant.specs.WhomType.{Whom}
+use Rattle.meant.specs.Cells.{no_cell}
+use Rattle.meant.specs.CellList.{before, before-is, entries_part}
+use Rattle.meant.specs.Where.{Where, at}
+use Rattle.meant.specs.Group.{group_fault, group_left, least_fault}
+use Rattle.meant.specs.GroupLaws.{better-nothing, shifted, left-append, fault_append-none, fault_append-some, left-lenient, fault_lenient, group_none, group_holds}
+use Rattle.meant.specs.Scratch.{Holds18, Flags, scratch_start, back_written, back_written_lem}
+use Rattle.meant.specs.Own.{lenient-length, word_before, word_own, word_behind}
 use Rattle.arcrun.specs.declared.Least.{Least}
 use Rattle.arcrun.specs.declared.Least.TheVariants as least
 use Rattle.arcrun.specs.Run.{Ran, CellRan, CellsRan}

@@ -9,11 +9,11 @@ use Rattle.sheetparts.specs.declared.SheetCheck.TheVariants.{Good}
 use Rattle.sheetlaws.specs.Sheet.{place}
 use Rattle.history.specs.Scan.{own_fault}
 use Rattle.history.specs.Sheet.{Values, arc_slots}
-use Rattle.slots.specs.Slots.{values_of, spelled, sheet_at}
-use Rattle.meaning.specs.declared.Whom.{Whom}
-use Rattle.meaning.specs.Cells.{entries_before}
-use Rattle.patching.specs.Group.{group_fault, group_left, least_fault}
-use Rattle.patching.specs.Scratch.{Holds18, Flags}
+use Rattle.meant.specs.Slots.{values_of, spelled, sheet_at}
+use Rattle.meant.specs.WhomType.{Whom}
+use Rattle.meant.specs.Cells.{entries_before}
+use Rattle.meant.specs.Group.{group_fault, group_left, least_fault}
+use Rattle.meant.specs.Scratch.{Holds18, Flags}
 use Rattle.arcrun.specs.declared.Least.{Least}
 use Rattle.arcrun.specs.declared.Least.TheVariants as least
 use Rattle.meant.specs.Touch.{entries_touched}

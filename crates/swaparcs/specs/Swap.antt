@@ -6,18 +6,18 @@ use Rattle.std.proofs.Math.ListN.{get_elem?}
 use Rattle.classes.specs.Choice.{pick, and}
 use Rattle.grammar.specs.declared.Cell as read
 use Rattle.grammar.specs.Meaning.{Item}
-use Rattle.sound.specs.Sound.{total}
+use Rattle.meant.specs.Sound.{total}
 use Rattle.history.specs.Events.{Event, holds, final, history, affected}
 use Rattle.history.specs.Faults.{Fault}
 use Rattle.history.specs.Sheet.{Slot, Values, Cell, Cut, events}
 use Rattle.history.specs.BySlots.{new_events}
-use Rattle.slots.specs.Slots.{records_of, values_of, sheet_at}
-use Rattle.applying.specs.Says.{cell_of, cells_of}
-use Rattle.applying.specs.Rows.{CellIs}
-use Rattle.meaning.specs.Entries.{EntriesAre}
-use Rattle.meaning.specs.Cells.{CellsAre}
-use Rattle.meaning.specs.CellList.{cell_no}
-use Rattle.patching.specs.Where.{Where, at}
+use Rattle.meant.specs.Slots.{records_of, values_of, sheet_at}
+use Rattle.meant.specs.Says.{cell_of, cells_of}
+use Rattle.meant.specs.Rows.{CellIs}
+use Rattle.meant.specs.Entries.{EntriesAre}
+use Rattle.meant.specs.Cells.{CellsAre}
+use Rattle.meant.specs.CellList.{cell_no}
+use Rattle.meant.specs.Where.{Where, at}
 use Rattle.arcrun.specs.declared.Least.{Least}
 use Rattle.arcrun.specs.declared.Least.TheVariants as least
 

@@ -5,8 +5,8 @@ use Rattle.std.proofs.Common.{add-one, arith}
 use Rattle.std.proofs.Math.Seq.{paste}
 use borrow.Author.Tests.{eq-eqb, ne_eqb}
 use Rattle.wire.specs.Wire.{be64, be_bytes}
-use Rattle.patching.specs.Scratch.{back_written}
-use Rattle.meaning.specs.Cells.{entries_before, entries_within}
+use Rattle.meant.specs.Scratch.{back_written}
+use Rattle.meant.specs.Cells.{entries_before, entries_within}
 use Rattle.swaparcs.specs.declared.Swap.{Swap}
 use Rattle.swaparcs.specs.Loops.{SwapReady}
 

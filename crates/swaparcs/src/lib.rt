@@ -2,7 +2,7 @@
 #![tactic(auto)]
 
 ghost use Rattle.std.specs.Prelude.{◌≡◌, ◌+◌, ◌≤◌, length};
-ghost use Rattle.patching.specs.Scratch.{back_written};
+ghost use Rattle.meant.specs.Scratch.{back_written};
 ghost use Rattle.swaparcs.specs.Loops.{better_of, is_fault};
 
 use arcrun::Least;

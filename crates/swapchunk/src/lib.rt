@@ -2,15 +2,15 @@
 #![tactic(auto)]
 
 ghost use Rattle.std.specs.Prelude.{◌≡◌, ◌≤◌, length};
-ghost use Rattle.sheet.specs.Find.{InstanceSearch, ArcSearch};
+ghost use Rattle.meant.specs.Find.{InstanceSearch, ArcSearch};
 ghost use Rattle.findseat.specs.Findseat.{InOrder};
 ghost use Rattle.nearby.specs.Seats.{There, Common};
 ghost use Rattle.swaparcs.specs.Loops.{SwapReady};
 ghost use Rattle.seating.specs.Seating.{SwapFits, FlagsSeated, StatesLoaded, FrontRan, SeatsThrough};
 
 use arcrun::Least;
-use entryarcs::Plan;
-use meaning::Whom;
+use meant::entryarcs::Plan;
+use meant::meaning::Whom;
 use swaparcs::Swap;
 
 // The number of the first cell.

@@ -6,8 +6,8 @@ ghost use Rattle.std.specs.Prelude.{◌≡◌, length};
 ghost use Rattle.seating.specs.Seating.{SwapFits, MarksCover, SwapSeated};
 
 use arcrun::Least;
-use entryarcs::Plan;
-use meaning::Whom;
+use meant::entryarcs::Plan;
+use meant::meaning::Whom;
 use swaparcs::Swap;
 
 // Judges all arcs, and writes them where there is no fault, so many at a time.

@@ -3,7 +3,7 @@
 use Rattle.std.specs.Prelude.{ℕ, ◌+◌, ◌≡◌, List, set}
 use Rattle.std.proofs.Common.{add-one}
 use borrow.Author.Tests.{eq-eqb, ne_eqb}
-use Rattle.amounts.specs.Amounts.{empty, given}
+use Rattle.applying.specs.Amounts.{empty, given}
 use Rattle.patching.specs.Scratch.{touched_flags}
 
 -- One slot.

@@ -8,12 +8,12 @@ use Rattle.std.proofs.lemmas.List.Edits.{length-paste}
 use Rattle.std.proofs.lemmas.Bool.{eqb-false}
 use Rattle.classes.specs.Choice.{pick}
 use Rattle.sheetlaws.specs.Sheet.{ar_next, place}
-use Rattle.sheet.specs.Search.{nth-next}
+use Rattle.meant.specs.Search.{nth-next}
 use Rattle.views.specs.Views.{head_at}
-use Rattle.meaning.specs.declared.Whom.{Whom}
-use Rattle.meaning.specs.declared.Whom.TheVariants.{One, Nobody}
-use Rattle.meaning.specs.Entries.{rows_at}
-use Rattle.patching.specs.Scratch.{touched_flags, touched-length}
+use Rattle.meant.specs.WhomType.{Whom}
+use Rattle.meant.specs.WhomType.TheVariants.{One, Nobody}
+use Rattle.meant.specs.Entries.{rows_at}
+use Rattle.meant.specs.Scratch.{touched_flags, touched-length}
 use Rattle.meant.specs.Touch.{meant_for, entries_touched}
 use Rattle.marking.specs.Chosen.{chosen, chosen_in, chosen_rises}
 use Rattle.marking.specs.Parts.{part_no, part_own, flags_other}

@@ -4,9 +4,9 @@ use Rattle.std.specs.Prelude.{ℕ, ◌*◌, ◌<◌, ◌≡◌, Bool, List, get_
 use Rattle.std.proofs.Math.Seq.{paste}
 use Rattle.classes.specs.Choice.{pick}
 use Rattle.views.specs.Views.{head_at}
-use Rattle.meaning.specs.declared.Whom.{Whom}
-use Rattle.meaning.specs.Entries.{rows_at}
-use Rattle.patching.specs.Scratch.{touched_flags}
+use Rattle.meant.specs.WhomType.{Whom}
+use Rattle.meant.specs.Entries.{rows_at}
+use Rattle.meant.specs.Scratch.{touched_flags}
 use Rattle.meant.specs.Touch.{meant_for, entries_touched}
 use Rattle.marking.specs.Parts.{part_no}
 

@@ -2,7 +2,7 @@
 use mathlib.Core.Path.{sym, ◌∙◌, ap}
 use lib.ListN.{length}
 use borrow.Author.Rules.{rules}
-use Rattle.sheet.specs.Find.{sheet_good, arcs_ready, instances_ready}
+use Rattle.meaning.specs.Find.{sheet_good, arcs_ready, instances_ready}
 use Rattle.annotate.specs.TextLaws.{text-done, text-stop}
 use Rattle.annotate.proofs.apply_text.Goals as goal
 

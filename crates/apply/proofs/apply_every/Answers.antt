@@ -1,7 +1,7 @@
 -- `apply::apply_every` meets its contract.
 use native.Mathlib.Omega.{arith}
 use borrow.Author.Tests.{eq-eqb, ne_eqb}
-use Rattle.applying.specs.Bytes.{applied_every}
+use Rattle.entryarcs.specs.Bytes.{applied_every}
 use Rattle.apply.proofs.apply_every.Goals as goal
 
 pub returns-then-least-eq0 : goal.returns-then-least-eq0

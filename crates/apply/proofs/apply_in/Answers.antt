@@ -2,7 +2,7 @@
 use mathlib.Core.Path.{sym, ◌∙◌}
 use native.Mathlib.Omega.{arith}
 use borrow.Author.Tests.{eq-eqb, ne_eqb}
-use Rattle.applying.specs.Bytes.{found_refusal, found_written, refusal_in, written_in, applied_in}
+use Rattle.entryarcs.specs.Bytes.{found_refusal, found_written, refusal_in, written_in, applied_in}
 use Rattle.entryarcs.specs.Turns.{found-whole}
 use Rattle.apply.proofs.apply_in.Goals as goal
 

@@ -2,7 +2,7 @@
 use mathlib.Core.Path.{◌≡◌, refl, ◌∙◌}
 use native.Mathlib.Omega.{arith}
 use Rattle.sheetlaws.specs.Sheet.{nth}
-use Rattle.applying.specs.Bytes.{least_of, refusal_every}
+use Rattle.entryarcs.specs.Bytes.{least_of, refusal_every}
 use Rattle.entryarcs.specs.Turns.{least_with, least_without, instance-whole, instance-more, typed, type-is, refuses_in}
 use Rattle.apply.proofs.refusal_every.Goals as goal
 use Rattle.apply.proofs.refusal_every.Goals.{then-is_of, else-is_of}

@@ -2,7 +2,7 @@
 use Prim.Native.Nat.{◌-◌, ◌≤◌}
 use mathlib.Core.Path.{◌≡◌}
 use Rattle.sheetlaws.specs.Sheet.{in_end, nth}
-use Rattle.applying.specs.Bytes.{least_of}
+use Rattle.entryarcs.specs.Bytes.{least_of}
 use Rattle.entryarcs.specs.Turns.{typed, refuses_in}
 use Rattle.apply.proofs.refusal_every.Given as goal
 

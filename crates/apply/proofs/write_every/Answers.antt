@@ -2,7 +2,7 @@
 use mathlib.Core.Path.{◌≡◌, refl, ◌∙◌}
 use native.Mathlib.Omega.{arith}
 use Rattle.sheetlaws.specs.Sheet.{nth}
-use Rattle.applying.specs.Bytes.{written_of, written_every}
+use Rattle.entryarcs.specs.Bytes.{written_of, written_every}
 use Rattle.entryarcs.specs.Turns.{written_with, written_without, instance-whole, instance-more, typed, type-is, writes_in}
 use Rattle.apply.proofs.write_every.Goals as goal
 use Rattle.apply.proofs.write_every.Goals.{then-is_of, else-is_of}

@@ -3,7 +3,7 @@ use Prim.Native.Nat.{◌-◌, ◌≤◌}
 use mathlib.Core.Path.{◌≡◌}
 use lib.ListN.{length}
 use Rattle.sheetlaws.specs.Sheet.{in_end, nth}
-use Rattle.applying.specs.Bytes.{written_of}
+use Rattle.entryarcs.specs.Bytes.{written_of}
 use Rattle.entryarcs.specs.Turns.{typed, writes_in}
 use Rattle.apply.proofs.write_every.Given as goal
 

@@ -1,7 +1,7 @@
 -- `apply::write_in` meets its contract.
 use mathlib.Core.Path.{sym, ◌∙◌}
 use borrow.Author.Tests.{eq-eqb, ne_eqb}
-use Rattle.applying.specs.Bytes.{found_written, written_in}
+use Rattle.entryarcs.specs.Bytes.{found_written, written_in}
 use Rattle.entryarcs.specs.Turns.{found-whole}
 use Rattle.apply.proofs.write_in.Goals as goal
 

@@ -1,5 +1,5 @@
 -- `arcrun::mask` meets its contract.
-use Rattle.patching.specs.Scratch.{masked}
+use Rattle.meant.specs.Scratch.{masked}
 use Rattle.arcrun.proofs.mask.Goals as goal
 
 pub returns : goal.returns

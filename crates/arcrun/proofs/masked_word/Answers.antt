@@ -1,7 +1,7 @@
 -- `arcrun::masked_word` meets its contract.
 use borrow.Author.Tests.{eq-eqb, ne_eqb}
-use Rattle.amounts.specs.Amounts.{given}
-use Rattle.patching.specs.Scratch.{masked_word}
+use Rattle.meant.specs.Amounts.{given}
+use Rattle.meant.specs.Scratch.{masked_word}
 use Rattle.arcrun.proofs.masked_word.Goals as goal
 
 pub returns-then-flags-slot-eq0 : goal.returns-then-flags-slot-eq0

@@ -2,7 +2,7 @@
 use mathlib.Core.Path.{refl, sym, ◌∙◌}
 use native.Mathlib.Omega.{arith}
 use borrow.Author.Tests.{eq-eqb, ne_eqb}
-use Rattle.meaning.specs.Entries.{rows_at}
+use Rattle.meant.specs.Entries.{rows_at}
 use Rattle.arcrun.specs.Run.{entry_number, entry_state}
 use Rattle.arcrun.proofs.run_entry.Goals as goal
 

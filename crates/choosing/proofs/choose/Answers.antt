@@ -2,7 +2,7 @@
 use Prim.Native.Nat.{suc}
 use mathlib.Core.Path.{◌≡◌, sym, ◌∙◌}
 use native.Mathlib.Omega.{arith}
-use Rattle.entryarcs.specs.Turns.{arc-whole, arc-more}
+use Rattle.meant.specs.ArcTurns.{arc-whole, arc-more}
 use Rattle.marking.specs.Laws.{set_long, chosen-start, choose_one, choose-none, chosen-full}
 use Rattle.choosing.proofs.choose.Goals as goal
 use Rattle.choosing.proofs.choose.Goals.{then-is_marked, else-is_marked}

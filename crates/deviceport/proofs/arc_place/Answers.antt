@@ -1,6 +1,6 @@
 -- `deviceport::arc_place` meets its contract. Invariant: `here` is the place of arc number k.
-use Rattle.sheet.specs.Search.{stride_of, mark-room, nth-next}
-use Rattle.sheet.specs.Find.{arc_there}
+use Rattle.entryarcs.specs.Search.{stride_of, mark-room, nth-next}
+use Rattle.entryarcs.specs.Find.{arc_there}
 use Rattle.sheetlaws.specs.Sheet.{ar_next}
 use native.Mathlib.Nat.{div-mul-le_self}
 use native.Mathlib.Omega.{arith}

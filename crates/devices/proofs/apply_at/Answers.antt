@@ -1,5 +1,5 @@
 -- `devices::apply_at` meets its contract.
-use Rattle.applying.specs.Bytes.{refusal_in, written_in, applied_in}
+use Rattle.entryarcs.specs.Bytes.{refusal_in, written_in, applied_in}
 use borrow.Author.Tests.{eq-eqb, ne_eqb}
 use native.Mathlib.Omega.{arith}
 use Rattle.devices.proofs.apply_at.Goals as goal

@@ -1,5 +1,5 @@
 -- `devices::refusal_at` meets its contract.
-use Rattle.applying.specs.Bytes.{refusal_in}
+use Rattle.entryarcs.specs.Bytes.{refusal_in}
 use borrow.Author.Tests.{eq-eqb}
 use Rattle.devices.proofs.refusal_at.Goals as goal
 

@@ -1,11 +1,11 @@
 -- `devices::refusal_chained` meets its contract. Invariant: whether one of the arcs before k is meant, the least refusal of those that are, and k is on the chain of the path's bucket.
 use Rattle.entryarcs.specs.Turns.{some_with, some_without, least_with, least_without, some_same, least-same, hits, refuses, hit-is}
-use Rattle.applying.specs.Bytes.{some_of, least_of, device_refusal}
+use Rattle.entryarcs.specs.Bytes.{some_of, least_of, device_refusal}
 use Rattle.deviceport.specs.ByPath.{other_end}
 use Rattle.byend.specs.Ends.{end_place, end_bucket}
 use Rattle.bytype.specs.Chains.{chain_head, chain_next, skip_head, skip_next}
 use Rattle.bytype.specs.ByType.{bucket_of}
-use Rattle.sheet.specs.Find.{arc_there}
+use Rattle.entryarcs.specs.Find.{arc_there}
 use Rattle.sheetparts.specs.Form.{path_at}
 use native.Mathlib.Omega.{arith}
 use mathlib.Core.Path.{◌≡◌, sym, ◌∙◌, ap}

@@ -1,6 +1,6 @@
 -- `devices::refusal_chained` meets its contract. Invariant: whether one of the arcs before k is meant, the least refusal of those that are, and k is on the chain of the path's bucket.
 use Rattle.entryarcs.specs.Turns.{hits, refuses}
-use Rattle.applying.specs.Bytes.{some_of, least_of}
+use Rattle.entryarcs.specs.Bytes.{some_of, least_of}
 use Rattle.byend.specs.Ends.{end_bucket}
 use Rattle.bytype.specs.Chains.{OnChain}
 use Rattle.bytype.specs.ByType.{bucket_of}

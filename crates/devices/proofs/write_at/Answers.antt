@@ -1,5 +1,5 @@
 -- `devices::write_at` meets its contract.
-use Rattle.applying.specs.Bytes.{written_in}
+use Rattle.entryarcs.specs.Bytes.{written_in}
 use borrow.Author.Tests.{eq-eqb}
 use Rattle.devices.proofs.write_at.Goals as goal
 

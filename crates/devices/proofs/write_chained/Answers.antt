@@ -1,11 +1,11 @@
 -- `devices::write_chained` meets its contract. Invariant: what the arcs before k that are meant make of the sheet is written, and k is on the chain of the path's bucket.
 use Rattle.entryarcs.specs.Turns.{written_with, written_without, written_same, hits, writes, hit-is}
-use Rattle.applying.specs.Bytes.{written_of, device_written}
+use Rattle.entryarcs.specs.Bytes.{written_of, device_written}
 use Rattle.deviceport.specs.ByPath.{other_end}
 use Rattle.byend.specs.Ends.{end_place, end_bucket}
 use Rattle.bytype.specs.Chains.{chain_head, chain_next, skip_head, skip_next}
 use Rattle.bytype.specs.ByType.{bucket_of}
-use Rattle.sheet.specs.Find.{arc_there}
+use Rattle.entryarcs.specs.Find.{arc_there}
 use Rattle.sheetparts.specs.Form.{path_at}
 use native.Mathlib.Omega.{arith}
 use mathlib.Core.Path.{◌≡◌, refl, sym, ◌∙◌, ap}

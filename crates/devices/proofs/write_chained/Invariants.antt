@@ -1,6 +1,6 @@
 -- `devices::write_chained` meets its contract. Invariant: what the arcs before k that are meant make of the sheet is written, and k is on the chain of the path's bucket.
 use Rattle.entryarcs.specs.Turns.{hits, writes}
-use Rattle.applying.specs.Bytes.{written_of}
+use Rattle.entryarcs.specs.Bytes.{written_of}
 use Rattle.byend.specs.Ends.{end_bucket}
 use Rattle.bytype.specs.Chains.{OnChain}
 use Rattle.bytype.specs.ByType.{bucket_of}

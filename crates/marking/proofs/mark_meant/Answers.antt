@@ -3,7 +3,7 @@ use mathlib.Core.Path.{◌≡◌, refl, sym, ◌∙◌}
 use native.Mathlib.Omega.{arith}
 use Rattle.classes.specs.Choice.{pick}
 use Rattle.sheetlaws.specs.Sheet.{nth}
-use Rattle.entryarcs.specs.Turns.{arc-whole, arc-more}
+use Rattle.meant.specs.ArcTurns.{arc-whole, arc-more}
 use Rattle.marking.specs.Laws.{mark-long, mark_keeps, kept_same, arc-marked, arc_passed}
 use Rattle.marking.proofs.mark_meant.Goals as goal
 use Rattle.marking.proofs.mark_meant.Goals.{then-is_meant, else-is_meant}

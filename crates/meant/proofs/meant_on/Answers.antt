@@ -2,7 +2,7 @@
 use borrow.Author.Tests.{eq-eqb, ne_eqb}
 use Rattle.names.specs.Order.{same_text}
 use Rattle.names.specs.Name.{name_of_it, same_name}
-use Rattle.applying.specs.Bytes.{device_hit}
+use Rattle.meaning.specs.Bytes.{device_hit}
 use Rattle.patching.specs.Meant.{meant_in}
 use Rattle.meant.proofs.meant_on.Goals as goal
 

@@ -1,8 +1,8 @@
 -- `ownfaults::own_fault` meets its contract.
 use mathlib.Core.Path.{sym, ◌∙◌}
 use Rattle.views.specs.Views.{cell_at}
-use Rattle.meaning.specs.declared.Whom.TheVariants.{One, Every}
-use Rattle.meaning.specs.Whom.{one_somebody, every_somebody}
+use Rattle.meant.specs.WhomType.TheVariants.{One, Every}
+use Rattle.meant.specs.Whom.{one_somebody, every_somebody}
 use Rattle.ownfaults.specs.OwnLaws.{own_refused, own_listed}
 use Rattle.ownfaults.proofs.own_fault.Goals as goal
 

@@ -1,6 +1,6 @@
 -- `ownfaults::own_refusal` meets its contract.
 use mathlib.Core.Path.{refl}
-use Rattle.meaning.specs.Entries.{rows_at, refusal_for}
+use Rattle.meant.specs.Entries.{rows_at, refusal_for}
 use Rattle.ownfaults.proofs.own_refusal.Goals as goal
 
 pub refusal_in-requires : goal.refusal_in-requires

@@ -4,7 +4,7 @@ use mathlib.Core.Path.{◌≡◌, refl, ap}
 use native.Mathlib.Omega.{arith}
 use native.Mathlib.Numerals.{add-one}
 use lib.ListN.{get_or}
-use Rattle.meaning.specs.Cells.{entries_before, entries_within}
+use Rattle.meant.specs.Cells.{entries_before, entries_within}
 use Rattle.patch.proofs.count_entries.Goals as goal
 
 pub loop-k-init : goal.loop-k-init

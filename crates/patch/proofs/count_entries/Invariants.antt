@@ -1,7 +1,7 @@
 -- `patch::count_entries` meets its contract. Invariant: the sum of the cells so far.
 use Prim.Native.Nat.{◌-◌, ◌≤◌}
 use mathlib.Core.Path.{◌≡◌}
-use Rattle.meaning.specs.Cells.{entries_before}
+use Rattle.meant.specs.Cells.{entries_before}
 use Rattle.patch.proofs.count_entries.Given as goal
 
 abbrev pub invariant-loop-k : goal.invariant-loop-k

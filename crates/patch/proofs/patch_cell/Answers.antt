@@ -5,7 +5,7 @@ use native.Mathlib.Omega.{arith}
 use lib.ListN.{get_or}
 use Rattle.patch.specs.PatchLaws.{cell_unread, none_come, cell_ready, cell_read, one-comes}
 use Rattle.patch.proofs.patch_cell.Goals as goal
-use Rattle.meaning.specs.Cells.{entries_within}
+use Rattle.meant.specs.Cells.{entries_within}
 
 pub count_entries-requires : goal.count_entries-requires
 count_entries-requires c =

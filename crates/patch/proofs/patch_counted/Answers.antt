@@ -2,7 +2,7 @@
 use Prim.Native.Nat.{◌/◌}
 use mathlib.Core.Path.{sym, ◌∙◌}
 use lib.ListN.{length}
-use Rattle.sheet.specs.Find.{sheet_good}
+use Rattle.meant.specs.Find.{sheet_good}
 use Rattle.patch.specs.PatchLaws.{patch-unfit, patch-length, patch_records}
 use Rattle.patch.proofs.patch_counted.Goals as goal
 

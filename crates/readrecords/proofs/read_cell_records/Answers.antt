@@ -1,7 +1,7 @@
 -- `readrecords::read_cell_records` meets its contract: the table has a row for each cell that was read, and the fill puts these rows into the records.
 use Rattle.std.proofs.Common.{◌≡◌, ◌/◌, length, arith}
 use Rattle.grammar.specs.Outcome.{read_cell_of}
-use Rattle.sound.specs.Sound.{cell_sound}
+use Rattle.meaning.specs.Sound.{cell_sound}
 use Rattle.readrecords.specs.Reading.{room_for, count_of}
 use Rattle.readrecords.proofs.ReadingLaws.{records-are, rows_fit}
 use Rattle.readrecords.proofs.read_cell_records.Goals as goal

@@ -1,7 +1,7 @@
 -- `readrecords::read_file_records` meets its contract: the table has a row for each cell that was read, and the fill puts these rows into the records.
 use Rattle.std.proofs.Common.{◌≡◌, ◌/◌, length, arith}
 use Rattle.grammar.specs.Outcome.{read_file}
-use Rattle.sound.specs.Sound.{read_sound}
+use Rattle.meaning.specs.Sound.{read_sound}
 use Rattle.readrecords.specs.Reading.{room_for, count_of}
 use Rattle.readrecords.proofs.ReadingLaws.{records-are, rows_fit}
 use Rattle.readrecords.proofs.read_file_records.Goals as goal

@@ -4,7 +4,7 @@ use mathlib.Core.Path.{refl, ◌∙◌, ap}
 use native.Mathlib.Omega.{arith}
 use native.Mathlib.Numerals.{add-one}
 use lib.ListN.{get_or}
-use Rattle.meaning.specs.Cells.{entries_before, entries_within}
+use Rattle.meant.specs.Cells.{entries_before, entries_within}
 use Rattle.nearby.specs.Laws.{all_none, all_more, all-stop, all_end}
 use Rattle.seats.proofs.run_cells.Goals as goal
 

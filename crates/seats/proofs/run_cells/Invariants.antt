@@ -2,7 +2,7 @@
 use Prim.Native.Nat.{◌+◌, ◌-◌, ◌≤◌}
 use mathlib.Core.Path.{◌≡◌}
 use lib.ListN.{length}
-use Rattle.meaning.specs.Cells.{entries_before}
+use Rattle.meant.specs.Cells.{entries_before}
 use Rattle.nearby.specs.Laws.{AllSoFar}
 use Rattle.seats.proofs.run_cells.Given as goal
 

@@ -1,5 +1,5 @@
 -- `starred::apply_typed` meets its contract.
-use Rattle.applying.specs.Bytes.{applied_every}
+use Rattle.entryarcs.specs.Bytes.{applied_every}
 use borrow.Author.Tests.{eq-eqb, ne_eqb}
 use native.Mathlib.Omega.{arith}
 use Prim.Native.Nat.{◌≤◌}

@@ -1,9 +1,9 @@
 -- `starred::refusal_chained` meets its contract. Invariant: the least refusal in the instances before k that are of the type, and k is on the chain of the type's bucket.
-use Rattle.applying.specs.Bytes.{least_of, refusal_every}
+use Rattle.entryarcs.specs.Bytes.{least_of, refusal_every}
 use Rattle.entryarcs.specs.Turns.{least_with, least_without, least-same, typed, type-is, refuses_in}
 use Rattle.bytype.specs.Chains.{chain_head, chain_next, skip_head, skip_next}
 use Rattle.bytype.specs.ByType.{bucket_of, type_bucket, link_place, other_bucket}
-use Rattle.sheet.specs.Find.{in_there}
+use Rattle.entryarcs.specs.Find.{in_there}
 use native.Mathlib.Omega.{arith}
 use mathlib.Core.Path.{◌≡◌, sym, ◌∙◌}
 use Prim.Native.Nat.{◌<◌}

@@ -1,5 +1,5 @@
 -- `starred::refusal_chained` meets its contract. Invariant: the least refusal in the instances before k that are of the type, and k is on the chain of the type's bucket.
-use Rattle.applying.specs.Bytes.{least_of}
+use Rattle.entryarcs.specs.Bytes.{least_of}
 use Rattle.entryarcs.specs.Turns.{typed, refuses_in}
 use Rattle.bytype.specs.Chains.{OnChain}
 use Rattle.bytype.specs.ByType.{bucket_of, type_bucket}

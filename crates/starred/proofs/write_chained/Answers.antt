@@ -1,9 +1,9 @@
 -- `starred::write_chained` meets its contract. Invariant: what is made of the sheet in the instances before k that are of the type is written, and k is on the chain of the type's bucket.
-use Rattle.applying.specs.Bytes.{written_of, written_every}
+use Rattle.entryarcs.specs.Bytes.{written_of, written_every}
 use Rattle.entryarcs.specs.Turns.{written_with, written_without, written_same, typed, type-is, writes_in}
 use Rattle.bytype.specs.Chains.{chain_head, chain_next, skip_head, skip_next}
 use Rattle.bytype.specs.ByType.{bucket_of, type_bucket, link_place, other_bucket}
-use Rattle.sheet.specs.Find.{in_there}
+use Rattle.entryarcs.specs.Find.{in_there}
 use native.Mathlib.Omega.{arith}
 use mathlib.Core.Path.{◌≡◌, refl, sym, ◌∙◌}
 use Prim.Native.Nat.{◌<◌}

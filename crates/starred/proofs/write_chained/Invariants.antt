@@ -1,5 +1,5 @@
 -- `starred::write_chained` meets its contract. Invariant: what is made of the sheet in the instances before k that are of the type is written, and k is on the chain of the type's bucket.
-use Rattle.applying.specs.Bytes.{written_of}
+use Rattle.entryarcs.specs.Bytes.{written_of}
 use Rattle.entryarcs.specs.Turns.{typed, writes_in}
 use Rattle.bytype.specs.Chains.{OnChain}
 use Rattle.bytype.specs.ByType.{bucket_of, type_bucket}

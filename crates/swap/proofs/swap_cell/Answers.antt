@@ -1,6 +1,6 @@
 -- `swap::swap_cell` meets its contract.
 use borrow.Author.Rules.{rules}
-use Rattle.sheet.specs.Find.{sheet_good, arcs_ready, instances_ready}
+use Rattle.meant.specs.Find.{sheet_good, arcs_ready, instances_ready}
 use Rattle.ownfaults.specs.OwnLaws.{own_least}
 use Rattle.swap.proofs.SwapLaws.{MoversAre, movers, swap_answered}
 use Rattle.swap.proofs.swap_cell.Goals as goal

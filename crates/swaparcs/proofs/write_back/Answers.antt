@@ -5,8 +5,8 @@ use native.Mathlib.Omega.{arith}
 use lib.Seq.{paste}
 use borrow.Author.Rules.{rules}
 use Rattle.wire.specs.Wire.{be_bytes}
-use Rattle.amounts.specs.Turns.{bits_back}
-use Rattle.patching.specs.Scratch.{back_written}
+use Rattle.meant.specs.AmountTurns.{bits_back}
+use Rattle.meant.specs.Scratch.{back_written}
 use Rattle.swaparcs.specs.Turns.{value_with, value_without}
 use Rattle.swaparcs.proofs.write_back.Goals as goal
 use Rattle.swaparcs.proofs.write_back.Goals.{then-flags-slot-ne0, else-flags-slot-ne0}

@@ -2,7 +2,7 @@
 use Prim.Native.Nat.{◌-◌, ◌≤◌}
 use mathlib.Core.Path.{◌≡◌}
 use lib.ListN.{length}
-use Rattle.patching.specs.Scratch.{back_written}
+use Rattle.meant.specs.Scratch.{back_written}
 use Rattle.swaparcs.proofs.write_back.Given as goal
 
 abbrev pub invariant-loop-slot : goal.invariant-loop-slot

@@ -3,7 +3,7 @@ use mathlib.Core.Path.{sym, ◌∙◌, refl}
 use Rattle.seating.specs.Through.{through_before, front_ran}
 use Rattle.swapchunk.proofs.run_seated.Goals as goal
 use native.Mathlib.Omega.{arith}
-use Rattle.meaning.specs.Cells.{entries_before}
+use Rattle.meant.specs.Cells.{entries_before}
 use Rattle.swaparcs.specs.Turns.{front-room, events_fit}
 
 pub run_cells-front-requires : goal.run_cells-front-requires

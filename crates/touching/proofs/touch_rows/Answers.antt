@@ -1,7 +1,7 @@
 -- `touching::touch_rows` meets its contract. Invariant: the flags behind the slots so far.
 use mathlib.Core.Path.{◌≡◌, refl, ◌∙◌}
 use native.Mathlib.Omega.{arith}
-use Rattle.amounts.specs.Amounts.{given}
+use Rattle.applying.specs.Amounts.{given}
 use Rattle.patching.specs.Scratch.{touched_flags}
 use Rattle.touching.specs.Turns.{slot_with, slot_without}
 use Rattle.touching.proofs.touch_rows.Goals as goal

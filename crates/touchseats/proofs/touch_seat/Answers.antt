@@ -1,7 +1,7 @@
 -- `touchseats::touch_seat` meets its contract: the seat's part of the flags is lent and comes back.
 use mathlib.Core.Path.{◌∙◌, ap}
 use lib.ListN.{length}
-use Rattle.meaning.specs.Entries.{rows_at}
+use Rattle.meant.specs.Entries.{rows_at}
 use Rattle.touchseats.specs.Laws.{seat-put, touched-long}
 use Rattle.touchseats.proofs.touch_seat.Goals as goal
 
