@@ -5,13 +5,14 @@ ghost use Rattle.std.specs.Prelude.{◌≡◌, false, replicate};
 ghost use Rattle.classes.specs.Choice.{pick};
 ghost use Rattle.answers.specs.Exports.{file_numbers, sheet_numbers, result_of, patched_of};
 
-// What stands below, for the crates above.
-pub use patch;
 use patch::meaning::Annotated;
 use patch::readcells::{Answer, FileRead};
 use patch::swap::Patched;
-pub use patch::{annotate, onecell, reader};
 use sheetparts::SheetCheck;
+
+// What stands below, for the crates above.
+pub use patch;
+pub use patch::{annotate, onecell, reader};
 
 // The answer of a reading: number 0 and what was read, with from, to of each of the header's texts; or a refusal's number and place.
 #[repr(C)]

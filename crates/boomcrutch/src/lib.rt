@@ -28,7 +28,9 @@ pub fn boomcrutch_count_tokens(text: &[u8]) -> usize
 
 // Reads a file into the two tables.
 pub fn boomcrutch_read_file(text: &[u8], cells: &mut [u64], entries: &mut [u64]) -> ReadNumbers
-    ensures { (result ≡ read_numbers (read_file (length cells.old / 7) (length entries.old / 28) text.now)) × (cells.new ≡ cells_left (read_file (length cells.old / 7) (length entries.old / 28) text.now) cells.old) × (entries.new ≡ entries_left (read_file (length cells.old / 7) (length entries.old / 28) text.now) entries.old) }
+    ensures { (result ≡ read_numbers (read_file (length cells.old / 7) (length entries.old / 28) text.now))
+        × (cells.new ≡ cells_left (read_file (length cells.old / 7) (length entries.old / 28) text.now) cells.old)
+        × (entries.new ≡ entries_left (read_file (length cells.old / 7) (length entries.old / 28) text.now) entries.old) }
 {
     let read = read_file(text, cells, entries);
     answers::numbers(read)
@@ -42,7 +44,9 @@ pub fn boomcrutch_read_cell(
     cells: &mut [u64],
     entries: &mut [u64],
 ) -> ReadNumbers
-    ensures { (result ≡ read_numbers (cell_by slash scale (length cells.old / 7) (length entries.old / 28) text.now)) × (cells.new ≡ cells_left (cell_by slash scale (length cells.old / 7) (length entries.old / 28) text.now) cells.old) × (entries.new ≡ entries_left (cell_by slash scale (length cells.old / 7) (length entries.old / 28) text.now) entries.old) }
+    ensures { (result ≡ read_numbers (cell_by slash scale (length cells.old / 7) (length entries.old / 28) text.now))
+        × (cells.new ≡ cells_left (cell_by slash scale (length cells.old / 7) (length entries.old / 28) text.now) cells.old)
+        × (entries.new ≡ entries_left (cell_by slash scale (length cells.old / 7) (length entries.old / 28) text.now) entries.old) }
 {
     if 1 < slash {
         return answers::no_setting();

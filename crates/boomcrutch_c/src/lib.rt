@@ -27,7 +27,9 @@ pub extern "C" fn boomcrutch_read_file(
     cells: &mut [u64],
     entries: &mut [u64],
 ) -> ReadNumbers
-    ensures { (result ≡ read_numbers (read_file (length cells.old / 7) (length entries.old / 28) text.now)) × (cells.new ≡ cells_left (read_file (length cells.old / 7) (length entries.old / 28) text.now) cells.old) × (entries.new ≡ entries_left (read_file (length cells.old / 7) (length entries.old / 28) text.now) entries.old) }
+    ensures { (result ≡ read_numbers (read_file (length cells.old / 7) (length entries.old / 28) text.now))
+        × (cells.new ≡ cells_left (read_file (length cells.old / 7) (length entries.old / 28) text.now) cells.old)
+        × (entries.new ≡ entries_left (read_file (length cells.old / 7) (length entries.old / 28) text.now) entries.old) }
 {
     boomcrutch::boomcrutch_read_file(text, cells, entries)
 }
@@ -41,7 +43,9 @@ pub extern "C" fn boomcrutch_read_cell(
     cells: &mut [u64],
     entries: &mut [u64],
 ) -> ReadNumbers
-    ensures { (result ≡ read_numbers (cell_by slash scale (length cells.old / 7) (length entries.old / 28) text.now)) × (cells.new ≡ cells_left (cell_by slash scale (length cells.old / 7) (length entries.old / 28) text.now) cells.old) × (entries.new ≡ entries_left (cell_by slash scale (length cells.old / 7) (length entries.old / 28) text.now) entries.old) }
+    ensures { (result ≡ read_numbers (cell_by slash scale (length cells.old / 7) (length entries.old / 28) text.now))
+        × (cells.new ≡ cells_left (cell_by slash scale (length cells.old / 7) (length entries.old / 28) text.now) cells.old)
+        × (entries.new ≡ entries_left (cell_by slash scale (length cells.old / 7) (length entries.old / 28) text.now) entries.old) }
 {
     boomcrutch::boomcrutch_read_cell(text, slash, scale, cells, entries)
 }

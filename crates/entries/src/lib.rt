@@ -341,7 +341,8 @@ fn read_pair(
     two: bool,
 ) -> ReadEntry
     requires { from ≤ length text.now }
-    ensures { Entered text.now from (two_ends slash (check_values two signed)) slash unit kind 84 place result.status result.entry (take result.count result.list) × (result.count ≤ 6) }
+    ensures { Entered text.now from (two_ends slash (check_values two signed)) slash unit kind 84 place result.status result.entry (take result.count result.list)
+        × (result.count ≤ 6) }
 {
     let a = entryends::read_end(text, from, false, slash);
     match a {
@@ -383,7 +384,8 @@ fn read_pair(
 // A check of one end.
 fn read_single(text: &[u8], from: usize, slash: bool, unit: u8, kind: u8, place: usize) -> ReadEntry
     requires { from ≤ length text.now }
-    ensures { Entered text.now from (non (end? false slash) ∷ check_values false false) slash unit kind 84 place result.status result.entry (take result.count result.list) × (result.count ≤ 6) }
+    ensures { Entered text.now from (non (end? false slash) ∷ check_values false false) slash unit kind 84 place result.status result.entry (take result.count result.list)
+        × (result.count ≤ 6) }
 {
     let a = entryends::read_end(text, from, false, slash);
     match a {

@@ -9,10 +9,11 @@ ghost use Rattle.applying.specs.Find.{ArcSearch};
 ghost use Rattle.applying.specs.Bytes.{device_hit, arc_of, device_refusal, device_written};
 ghost use Rattle.applying.specs.Ready.{InReady};
 
-// What stands below, for the crates above.
 use applying::sheet::Found;
-pub use applying::{amounts, sheet};
 use grammar::Entry;
+
+// What stands below, for the crates above.
+pub use applying::{amounts, sheet};
 pub use sheetrecords;
 
 const IOPATH: u8 = 1;

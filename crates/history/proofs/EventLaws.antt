@@ -2,7 +2,7 @@
 -- Assumes nothing.
 use Rattle.std.proofs.Math.Path.{◌≡◌, refl, sym, ap, subst, fun_ext}
 use Rattle.std.proofs.Common.{◌∙◌, inl, inr, arith}
-use Rattle.std.specs.Prelude.{Bool, ◌⊎◌, ◌↔◌, ℕ, leb, ℤ, nat_abs, ◌+ℤ◌}
+use Rattle.std.specs.Prelude.{Bool, ◌⊎◌, ◌↔◌, ℕ, leb, nat_abs, ◌+ℤ◌}
 use Rattle.std.proofs.Math.Bool.{true, false}
 use mathlib.Core.List.Memᴰ
 use mathlib.Core.List.{List, [], ◌∷◌, ◌++◌, append-nil, append_assoc, Memᴰ}

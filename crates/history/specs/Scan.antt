@@ -8,6 +8,7 @@ use Rattle.classes.specs.Choice.{pick, or, and}
 use Rattle.history.specs.Events.{Event}
 use Rattle.history.specs.Faults.{Fault, later}
 
+-- g comes before f: it is of an earlier event, or of the same one with a lower number
 abbrev pub precedes : Fault → Fault → Bool
 precedes g f = or (ltb g.event f.event) (and (eqb g.event f.event) (ltb g.number f.number))
 
@@ -17,6 +18,7 @@ better none g = g
 better (some f) none = some f
 better (some f) (some g) = pick (precedes g f) (some g) (some f)
 
+-- the number that the records give to an event (12, 13 or 14), or else what the events behind it have
 unfoldable pub own_here : Option ℕ → Option Fault → Option Fault
 own_here none rest = later rest
 own_here (some n) rest = some (record { event = 0; number = n })

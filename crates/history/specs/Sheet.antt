@@ -1,6 +1,6 @@
 -- Sheets, cells and entries; which arcs an entry of a cell addresses, what it supplies; annotating and patching.
 -- Assumes nothing.
-use Rattle.std.specs.Prelude.{Bool, true, not, List, [], ◌∷◌, ◌++◌, map, ℕ, zero, suc, ◌+◌, eqb, length, ℤ}
+use Rattle.std.specs.Prelude.{Bool, true, not, List, [], ◌∷◌, ◌++◌, map, ℕ, zero, suc, eqb, length, ℤ}
 use Rattle.std.proofs.Math.Option.{Option, none, some}
 use Rattle.std.proofs.Math.ListN.{get_elem?}
 use Rattle.classes.specs.Choice.{pick, and}

@@ -5,12 +5,13 @@ ghost use Rattle.std.specs.Prelude.{◌≡◌};
 ghost use Rattle.entryarcs.specs.Find.{InstanceSearch};
 ghost use Rattle.meaning.specs.Whom.{whom_of, InSheet};
 
-// What stands below, for the crates above.
-pub use entryarcs;
 use entryarcs::Plan;
 use entryarcs::sheet::Found;
-pub use entryarcs::{amounts, sheet, sheetrecords};
 use grammar::Cell;
+
+// What stands below, for the crates above.
+pub use entryarcs;
+pub use entryarcs::{amounts, sheet, sheetrecords};
 
 #[derive(Clone, Copy)]
 pub enum Annotated {

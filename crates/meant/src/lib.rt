@@ -11,12 +11,13 @@ ghost use Rattle.patching.specs.Meant.{meant_in, meant_every};
 ghost use Rattle.meant.specs.Only.{path_before, only_path, MeantOn};
 ghost use Rattle.meant.specs.Touch.{meant_for};
 
-// What stands below, for the crates above.
 use grammar::Entry;
-pub use meaning;
 use meaning::Whom;
 use meaning::entryarcs::Plan;
 use meaning::sheet::Found;
+
+// What stands below, for the crates above.
+pub use meaning;
 pub use meaning::{amounts, entryarcs, sheet, sheetrecords};
 
 const IOPATH: u8 = 1;

@@ -12,19 +12,20 @@ ghost use Rattle.swap.specs.declared.Patched.TheVariants.{Refused};
 ghost use Rattle.patch.specs.Meaning.{course, PatchIs};
 ghost use Rattle.patch.specs.Counted.{cells_read, CountedIs};
 
-// What stands below, for the crates above.
-pub use annotate;
 use meant::entryarcs::Plan;
-pub use meant::meaning;
 use meant::sheet;
-pub use onecell;
-pub use readcells;
 use readcells::Answer;
-pub use reader;
 use sheetparts::SheetCheck;
-pub use swap;
 use swap::Patched;
 use swaparcs::Swap;
+
+// What stands below, for the crates above.
+pub use annotate;
+pub use meant::meaning;
+pub use onecell;
+pub use readcells;
+pub use reader;
+pub use swap;
 
 // The answer, with the number of cells that were read of the file and of the incoming text: none of a text that was refused or not reached.
 #[derive(Clone, Copy)]

@@ -13,10 +13,8 @@ use Rattle.arcrun.specs.declared.Least.TheVariants as least
 use Rattle.arcrun.specs.Run.{CellsRan}
 use Rattle.marking.specs.Parts.{part_no}
 use Rattle.swaparcs.specs.declared.Swap.{Swap}
-use Rattle.swaparcs.specs.Loops.{any_set, SwapReady, ArcRan, ArcsRan, ArcsWritten}
-use Rattle.swaparcs.proofs.ArcLaws.{flags_at}
+use Rattle.swaparcs.specs.Loops.{any_set, SwapReady, ArcRan, ArcLate, flags_at, ArcsRan, ArcsWritten}
 use Rattle.marking.specs.Chosen.{chosen}
-use Rattle.swaparcs.proofs.ArcLate.{ArcLate}
 use Rattle.marking.specs.Choosing.{marked}
 use Rattle.nearby.specs.Seats.{Together}
 

@@ -34,7 +34,9 @@ pub fn run_seats<'a>(
     event: usize,
 ) -> Least
     requires { (InstanceSearch start.now plan.instances 12 places.now) × (ArcSearch start.now plan.arcs plan.first marks.now)
-        × (InOrder start.now plan.arcs plan.first arcs.now count) × (Common start.now arcs.now count common.now) × (count ≤ 4096) × (18 * count ≤ length flags.now) × (144 * count ≤ length states.old)
+        × (InOrder start.now plan.arcs plan.first arcs.now count)
+        × (Common start.now arcs.now count common.now) × (count ≤ 4096) × (18 * count ≤ length flags.now)
+        × (144 * count ≤ length states.old)
         × (row + 7 ≤ length cells.now) × (28 * (first + get_or cells.now (row + 6) 0) ≤ length entries.now)
         × (event + 1 + get_or cells.now (row + 6) 0 < 18446744073709551616) }
     ensures { (length states.new ≡ length states.old)
@@ -99,7 +101,9 @@ pub fn run_cells<'a>(
     begin: usize,
 ) -> Least
     requires { (InstanceSearch start.now plan.instances 12 places.now) × (ArcSearch start.now plan.arcs plan.first marks.now)
-        × (InOrder start.now plan.arcs plan.first arcs.now count) × (Common start.now arcs.now count common.now) × (count ≤ 4096) × (18 * count ≤ length flags.now) × (144 * count ≤ length states.old)
+        × (InOrder start.now plan.arcs plan.first arcs.now count)
+        × (Common start.now arcs.now count common.now) × (count ≤ 4096) × (18 * count ≤ length flags.now)
+        × (144 * count ≤ length states.old)
         × (7 * to ≤ length cells.now) × (before ≡ entries_before cells.now from) × (28 * entries_before cells.now to ≤ length entries.now)
         × (begin + (to + entries_before cells.now to) < 18446744073709551616) }
     ensures { (length states.new ≡ length states.old)

@@ -6,10 +6,7 @@ use Rattle.std.proofs.Common.{sym, ◌∙◌, inl, inr, arith, zero-add, lt-ltb,
 use Rattle.std.proofs.Math.Option.{Option, none, some}
 use Rattle.std.proofs.Math.ListN.{length}
 use Rattle.classes.specs.Choice.{pick, and, or}
-use Rattle.wire.specs.Wire.{Bytes}
-use Rattle.sheetparts.specs.Form.{check_of, values_at}
-use Rattle.sheetparts.specs.declared.SheetCheck.TheVariants.{Good}
-use Rattle.sheetlaws.specs.Sheet.{place}
+use Rattle.sheetparts.specs.Form.{values_at}
 use Rattle.history.specs.Events.{Event, lenient}
 use Rattle.history.proofs.EventLaws.{clash}
 use Rattle.history.specs.Faults.{Fault}
@@ -18,17 +15,17 @@ use Rattle.history.specs.BySlots.{new_events}
 use Rattle.history.specs.Sheet.{Slot, Values, arc_slots, events, file_events}
 use Rattle.meant.specs.Slots.{values_of, sheet_at}
 use Rattle.meant.specs.Instances.{records_at}
-use Rattle.meant.specs.Where.{Where, at}
+use Rattle.meant.specs.Where.{Where}
 use Rattle.meant.specs.Group.{group_fault, group_left}
 use Rattle.meant.specs.GroupLaws.{left-lenient, fault_lenient}
-use Rattle.meant.specs.Scratch.{Flags, scratch_start}
+use Rattle.meant.specs.Scratch.{scratch_start}
 use Rattle.meant.specs.Own.{lenient-length}
 use Rattle.arcrun.specs.declared.Least.TheVariants as least
 use Rattle.arcrun.specs.Run.{CellRan, CellsRan}
 use Rattle.arcrun.specs.Late.{Late, CellLate, CellsLate, late_append, late_on}
 use Rattle.swaparcs.specs.declared.Swap.{Swap}
-use Rattle.swaparcs.specs.Swap.{Given, parts, comer, news, touched}
-use Rattle.swaparcs.specs.Loops.{SwapReady}
+use Rattle.swaparcs.specs.Swap.{parts, comer, touched}
+use Rattle.swaparcs.specs.Loops.{SwapReady, ArcLate}
 use Rattle.swaparcs.proofs.ArcLaws.{long1, long2, behind_are, first_run, second_run}
 
 -- 1. A fault that is not before another
@@ -78,17 +75,10 @@ module _ (j : ℕ) (Some-of : Slot → Bool) where
 -- 2. One arc
 
 module _ (b : List ℕ) (n m f : ℕ) (file incoming : List ℕ) (slash : Bool) (cells entries cells2 entries2 : List ℕ) (swap : Swap) where
-  -- the fault of the arc at q, if it has one, is not before event number ev with the number x
-  abbrev pub ArcLate : (q : ℕ) (flags : List ℕ) (ev x : ℕ) → Type 0
-  ArcLate q flags ev x =
-      Bytes b → check_of b ≡ Good n m f → (j : ℕ) → j < m → q ≡ place b j f
-      → (g : Given cells entries cells2 entries2 swap.cells swap.outgoing) → Flags flags j (touched b n m f file incoming slash g)
-      → better (group_fault (arc_slots j) (touched b n m f file incoming slash g) (values_of (sheet_at b n m f)) (news b n m f file incoming slash g))
-      (some (record { event = ev; number = x })) ≡ some (record { event = ev; number = x })
-
   -- known among the cells before the incoming one
   pub arc_late_before : (q : ℕ) (flags st0 : List ℕ) (ev x : ℕ) → SwapReady cells entries cells2 entries2 swap → st0 ≡ take 144 (drop (values_at b q) b)
-      → CellsLate b file slash n m f cells 0 swap.outgoing entries q flags st0 0 ev x → ArcLate q flags ev x
+      → CellsLate b file slash n m f cells 0 swap.outgoing entries q flags st0 0 ev x
+      → ArcLate b n m f file incoming slash cells entries cells2 entries2 swap q flags ev x
   unfolding new_events
   arc_late_before q flags st0 ev x ready start late bytes good j l d g y =
       let c = g.there in
@@ -105,7 +95,8 @@ module _ (b : List ℕ) (n m f : ℕ) (file incoming : List ℕ) (slash : Bool) 
   pub arc_late_own : (q : ℕ) (flags st0 st1 : List ℕ) (ev x : ℕ) → SwapReady cells entries cells2 entries2 swap
       → st0 ≡ take 144 (drop (values_at b q) b)
       → CellsRan b file slash n m f cells 0 swap.outgoing entries q flags st0 st1 0 least.Nothing
-      → CellLate b incoming slash n m f true cells2 0 entries2 0 q flags st1 (swap.outgoing + swap.before) ev x → ArcLate q flags ev x
+      → CellLate b incoming slash n m f true cells2 0 entries2 0 q flags st1 (swap.outgoing + swap.before) ev x
+      → ArcLate b n m f file incoming slash cells entries cells2 entries2 swap q flags ev x
   unfolding new_events
   arc_late_own q flags st0 st1 ev x ready start run1 late bytes good j l d g y =
       let Some-of = touched b n m f file incoming slash g in
@@ -128,7 +119,8 @@ module _ (b : List ℕ) (n m f : ℕ) (file incoming : List ℕ) (slash : Bool) 
       → CellsRan b file slash n m f cells 0 swap.outgoing entries q flags st0 st1 0 least.Nothing
       → CellRan b incoming slash n m f true cells2 0 entries2 0 q flags st1 st2 (swap.outgoing + swap.before) least.Nothing
       → CellsLate b file slash n m f cells (suc swap.outgoing) swap.cells entries q flags st2
-      (swap.outgoing + swap.before + 1 + swap.coming) ev x → ArcLate q flags ev x
+      (swap.outgoing + swap.before + 1 + swap.coming) ev x
+      → ArcLate b n m f file incoming slash cells entries cells2 entries2 swap q flags ev x
   unfolding new_events
   arc_late_behind q flags st0 st1 st2 ev x ready start run1 run2 late bytes good j l d g y =
       let Some-of = touched b n m f file incoming slash g in

@@ -37,7 +37,7 @@ use Rattle.arcrun.specs.CellRuns.{cells-length, cell-length}
 use Rattle.arcrun.specs.TouchLaws.{both-touched, length-file}
 use Rattle.swaparcs.specs.declared.Swap.{Swap}
 use Rattle.swaparcs.specs.Swap.{Given, olds, parts, comer, news, touched, LeastIs, written_up_to}
-use Rattle.swaparcs.specs.Loops.{any_set, better_of, both_touched, SwapReady, ArcRan, Movers, ArcsRan, ArcsWritten}
+use Rattle.swaparcs.specs.Loops.{any_set, better_of, both_touched, SwapReady, ArcRan, Movers, flags_at, ArcsRan, ArcsWritten}
 
 -- 1. The lesser of two faults
 
@@ -295,16 +295,12 @@ module _ (b : List ℕ) (n m f : ℕ) (file incoming : List ℕ) (slash : Bool) 
   arc_fault g j =
       group_fault (arc_slots j) (touched b n m f file incoming slash g) (values_of (sheet_at b n m f)) (news b n m f file incoming slash g)
 
-  -- the flags of the arc at q
-  abbrev pub flags_at : ℕ → List ℕ
-  flags_at q =
-      both_touched b file incoming slash n entries swap.before swap.leaving leaver type entries2 swap.coming newcomer type2 q (replicate 18 0)
-
   -- they are those of its touched slots
   flags_at_lem : SwapReady cells entries cells2 entries2 swap → Bytes b → check_of b ≡ Good n m f
       → (g : Given cells entries cells2 entries2 swap.cells swap.outgoing)
       → Movers b n m f file incoming slash cells entries cells2 entries2 swap g leaver type newcomer type2 → (j q : ℕ) (flags : List ℕ) → j < m
-      → q ≡ place b j f → flags ≡ flags_at q → Flags flags j (touched b n m f file incoming slash g)
+      → q ≡ place b j f → flags ≡ flags_at b n m f file incoming slash cells entries cells2 entries2 swap leaver type newcomer type2 q
+      → Flags flags j (touched b n m f file incoming slash g)
   flags_at_lem ready bytes good g w j q flags l d e =
       rw (e, d) (flags_both b n m f file incoming slash cells entries cells2 entries2 swap leaver type newcomer type2 ready bytes good g w j l)
 
@@ -325,7 +321,8 @@ module _ (b : List ℕ) (n m f : ℕ) (file incoming : List ℕ) (slash : Bool) 
 
     -- an arc with a touched slot
     pub arcs_more : (j q : ℕ) (flags st : List ℕ) (best fault : Least) → SwapReady cells entries cells2 entries2 swap → j < m → q ≡ place b j f
-        → flags ≡ flags_at q → ArcsSoFar j best → ArcRan b n m f file incoming slash cells entries cells2 entries2 swap q flags st fault
+        → flags ≡ flags_at b n m f file incoming slash cells entries cells2 entries2 swap leaver type newcomer type2 q → ArcsSoFar j best
+        → ArcRan b n m f file incoming slash cells entries cells2 entries2 swap q flags st fault
         → ArcsSoFar (suc j) (better_of best fault)
     unfolding least_fault
     arcs_more j q flags st best fault ready l d e so run bytes good g w o =
@@ -334,7 +331,8 @@ module _ (b : List ℕ) (n m f : ℕ) (file incoming : List ℕ) (slash : Bool) 
 
     -- and one without
     pub arcs_pass : (j q : ℕ) (flags : List ℕ) (best : Least) → SwapReady cells entries cells2 entries2 swap → j < m → q ≡ place b j f
-        → flags ≡ flags_at q → any_set flags 18 ≡ false → ArcsSoFar j best → ArcsSoFar (suc j) best
+        → flags ≡ flags_at b n m f file incoming slash cells entries cells2 entries2 swap leaver type newcomer type2 q
+        → any_set flags 18 ≡ false → ArcsSoFar j best → ArcsSoFar (suc j) best
     unfolding least_fault
     arcs_pass j q flags best ready l d e u so bytes good g w o =
         rw (

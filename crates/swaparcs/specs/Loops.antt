@@ -1,13 +1,13 @@
 -- What the functions of the swap are asked and say of the arcs: the contracts of its loops.
 -- Assumes nothing.
-use Rattle.std.specs.Prelude.{ℕ, zero, suc, ◌+◌, ◌*◌, ◌<◌, ◌≤◌, ◌≡◌, Bool, true, false, not, List, eqb, ltb, length, get_or}
-use Rattle.std.proofs.Math.Option.{none}
+use Rattle.std.specs.Prelude.{ℕ, zero, suc, ◌+◌, ◌*◌, ◌<◌, ◌≤◌, ◌≡◌, Bool, true, false, not, List, eqb, ltb, length, get_or, replicate}
+use Rattle.std.proofs.Math.Option.{none, some}
 use Rattle.classes.specs.Choice.{pick, and, or}
 use Rattle.wire.specs.Wire.{Bytes}
 use Rattle.sheetparts.specs.Form.{check_of}
 use Rattle.sheetparts.specs.declared.SheetCheck.TheVariants.{Good}
 use Rattle.sheetlaws.specs.Sheet.{place}
-use Rattle.history.specs.Scan.{own_fault}
+use Rattle.history.specs.Scan.{better, own_fault}
 use Rattle.history.specs.Sheet.{Values, arc_slots}
 use Rattle.meant.specs.Slots.{values_of, spelled, sheet_at}
 use Rattle.meant.specs.WhomType.{Whom}
@@ -65,6 +65,20 @@ module _ (b : List ℕ) (n m f : ℕ) (file incoming : List ℕ) (slash : Bool) 
       (group_fault (arc_slots j) (touched b n m f file incoming slash g) (values_of (sheet_at b n m f)) (news b n m f file incoming slash g)) r)
       × (r ≡ least.Nothing → Holds18 st' j
       (group_left (arc_slots j) (touched b n m f file incoming slash g) (values_of (sheet_at b n m f)) (news b n m f file incoming slash g)))
+
+  -- the fault of the arc at q, if it has one, is not before event number ev with the number x
+  abbrev pub ArcLate : (q : ℕ) (flags : List ℕ) (ev x : ℕ) → Type 0
+  ArcLate q flags ev x =
+      Bytes b → check_of b ≡ Good n m f → (j : ℕ) → j < m → q ≡ place b j f
+      → (g : Given cells entries cells2 entries2 swap.cells swap.outgoing) → Flags flags j (touched b n m f file incoming slash g)
+      → better (group_fault (arc_slots j) (touched b n m f file incoming slash g) (values_of (sheet_at b n m f)) (news b n m f file incoming slash g))
+      (some (record { event = ev; number = x })) ≡ some (record { event = ev; number = x })
+
+  module _ (leaver : Whom) (type : List ℕ) (newcomer : Whom) (type2 : List ℕ) where
+    -- the flags of the arc at q: no slot's yet, then those that either cell touches
+    abbrev pub flags_at : ℕ → List ℕ
+    flags_at q =
+        both_touched b file incoming slash n entries swap.before swap.leaving leaver type entries2 swap.coming newcomer type2 q (replicate 18 0)
 
   -- the outgoing and the incoming cell apply to these instances
   abbrev pub Movers : (g : Given cells entries cells2 entries2 swap.cells swap.outgoing) (leaver : Whom) (type : List ℕ) (newcomer : Whom) (type2 : List ℕ)

@@ -16,15 +16,13 @@ pub loop-i-preserved-then-is_name_byte : goal.loop-i-preserved-then-is_name_byte
 loop-i-preserved-then-is_name_byte c =
     one_byte c.args.text.now c.args.slash c.args.from c.loop-i.i c.loop-i.invariant (sym c.is_name_byte.ensures ∙ c.if-is_name_byte.true)
 
-pub returns-then-byte-divider : goal.returns-then-byte-divider
-returns-then-byte-divider c = c.loop-i.invariant
-
 pub returns-then-not-is_name_byte : goal.returns-then-not-is_name_byte
 returns-then-not-is_name_byte c = c.loop-i.invariant
 
 pub loop-i-preserved : goal.loop-i-preserved
 loop-i-preserved c =
-    let d : get_or c.args.text.now c.loop-i.i 0 ≡ divider c.args.slash = c.if-byte-divider.false ∙ c.divider_of-divider.ensures in
+    let e : get_or c.args.text.now c.loop-i.i 0 ≡ c.divider_of-divider.result = search rules in
+    let d : get_or c.args.text.now c.loop-i.i 0 ≡ divider c.args.slash = e ∙ c.divider_of-divider.ensures in
     let b : is_name_byte (get_or c.args.text.now (c.loop-i.i + 1) 0) ≡ true = ap is_name_byte (sym c.peek.ensures) ∙ sym c.is_name_byte-else-is_name_byte.ensures ∙ c.if-not-is_name_byte.false in
     one-divider c.args.text.now c.args.slash c.args.from c.loop-i.i c.loop-i.invariant (search rules) d b
 

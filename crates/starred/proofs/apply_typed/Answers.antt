@@ -7,12 +7,12 @@ use Rattle.starred.proofs.apply_typed.Goals as goal
 
 pub refusal_chained-least-requires : goal.refusal_chained-least-requires
 refusal_chained-least-requires c =
-    let few : c.args.plan.instances ≤ 65536 = omega (arith, c.if-plan-gt-MOST.false) in
+    let few : c.args.plan.instances ≤ 65536 = omega arith in
     (c.requires.0, few, c.requires.1 few, c.requires.2)
 
 pub write_chained-requires : goal.write_chained-requires
 write_chained-requires c =
-    let few : c.args.plan.instances ≤ 65536 = omega (arith, c.if-plan-gt-MOST.false) in
+    let few : c.args.plan.instances ≤ 65536 = omega arith in
     (c.requires.0, few, c.requires.1 few, c.requires.2)
 
 pub returns-then-least-eq0 : goal.returns-then-least-eq0
