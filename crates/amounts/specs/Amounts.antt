@@ -1,6 +1,6 @@
 -- One value and what an entry supplies to it, as words: 'two's complement. The least 64-bit number means empty', and an absent number.
 -- Assumes nothing.
-use Rattle.std.specs.Prelude.{ℕ, zero, suc, ◌+◌, ◌*◌, ◌/◌, ◌%◌, ◌^◌, Bool, List, [], ◌∷◌, map, ◌==◌, nat_le, slice_index, slice_index_or}
+use Rattle.std.specs.Prelude.{ℕ, zero, suc, ◌+◌, ◌*◌, ◌/◌, ◌%◌, ◌^◌, Bool, List, [], ◌∷◌, map, ◌==◌, nat_le, slice_index, slice_index_or, min, Option, None, Some}
 use Rattle.std.proofs.Math.Seq.{paste}
 use Rattle.classes.specs.Choice.{pick, or}
 use Rattle.wire.specs.Wire.{be64, be_bytes}
@@ -27,6 +27,16 @@ changed add old given = pick add (sum old given) given
 -- the lesser of two refusals, where 0 is none
 unfoldable pub lesser : ℕ → ℕ → ℕ
 lesser a b = pick (a == 0) b (pick (b == 0) a (pick (nat_le a b) a b))
+
+-- a refusal as the code has it, and the lesser of two
+unfoldable pub refused : ℕ → Option ℕ
+refused zero = None
+refused (suc n) = Some (suc n)
+
+unfoldable pub lesser_refusal : Option ℕ → Option ℕ → Option ℕ
+lesser_refusal None b = b
+lesser_refusal (Some m) None = Some m
+lesser_refusal (Some m) (Some n) = Some (min m n)
 
 -- 'six rows of three sets, row first': what a slot is given
 unfoldable pub given : List (List ℕ) → ℕ → ℕ

@@ -1,13 +1,12 @@
 -- The expanded list of words, against what the history of a slot is given by an entry's values.
 -- Assumes nothing.
-use Rattle.std.specs.Prelude.{◌≡◌, ℕ, zero, suc, ◌+◌, ◌*◌, ◌/◌, ◌%◌, ◌<◌, ◌≤◌, Bool, true, false, List, [], ◌∷◌, map, length, get_or, ℤ, slice_index, slice_index_or, unsigned_abs}
+use Rattle.std.specs.Prelude.{◌≡◌, ℕ, zero, suc, ◌+◌, ◌*◌, ◌/◌, ◌%◌, ◌<◌, ◌≤◌, Bool, true, false, List, [], ◌∷◌, map, length, get_or, ℤ, slice_index, slice_index_or, unsigned_abs, Some, None}
+use Rattle.std.specs.Prelude as supplied
 use Rattle.std.proofs.Math.Path.{refl}
 use Rattle.std.proofs.Common.{◌∙◌, ne_eqb}
 use Rattle.std.proofs.Math.Option.{Option, none, some}
 use native.Mathlib.Omega.{arith}
 use Rattle.std.proofs.lemmas.Bool.{lt-leb}
-use Rattle.grammar.specs.declared.Amount.{Amount}
-use Rattle.grammar.specs.declared.Amount.TheVariants.{Absent, Time}
 use Rattle.grammar.specs.declared.Value.{Value}
 use Rattle.grammar.specs.Meaning.{nothing}
 use Rattle.tables.specs.Layout.{amount_word, value_words, values_row}
@@ -18,9 +17,9 @@ use Rattle.slots.specs.Slots.{numeral, word_of, slot_at}
 use Rattle.amounts.specs.Amounts.{given, delay_choice, choice, value_row, expanded}
 
 -- 'each of the three numbers is supplied or absent'
-unfoldable pub amount_of : Amount → Option ℤ
-amount_of Absent = none
-amount_of (Time z) = some z
+unfoldable pub amount_of : supplied.Option ℤ → Option ℤ
+amount_of None = none
+amount_of (Some z) = some z
 
 unfoldable pub triple_of : Value → Triple
 triple_of v = record { low = amount_of v.min; middle = amount_of v.typ; high = amount_of v.max }
@@ -36,10 +35,10 @@ row_words t = word_of t.low ∷ word_of t.middle ∷ word_of t.high ∷ []
 
 -- 1. A value in a table and its words
 
-amount_word_lem : (a : Amount) → amount_word a ≡ word_of (amount_of a)
+amount_word_lem : (a : supplied.Option ℤ) → amount_word a ≡ word_of (amount_of a)
 unfolding amount_of word_of numeral
-amount_word_lem Absent = refl
-amount_word_lem (Time z) = refl
+amount_word_lem None = refl
+amount_word_lem (Some z) = refl
 
 value_words_lem : (v : Value) → value_words v ≡ row_words (triple_of v)
 unfolding triple_of
@@ -151,9 +150,9 @@ expanded-is t at g vs s i h =
 -- 4. Numbers stay in range
 
 -- 'at most 10^15 either way'
-abbrev pub InTime : Amount → Type 0
-InTime Absent = Unit {0}
-InTime (Time z) = unsigned_abs z ≤ limit
+abbrev pub InTime : supplied.Option ℤ → Type 0
+InTime None = Unit {0}
+InTime (Some z) = unsigned_abs z ≤ limit
 
 -- of each value
 abbrev pub Timely : List Value → Type 0
@@ -165,10 +164,10 @@ record Ranged (t : Triple) : Type 0 where
   middle : InRange t.middle
   high : InRange t.high
 
-amount_ranged : (a : Amount) → InTime a → InRange (amount_of a)
+amount_ranged : (a : supplied.Option ℤ) → InTime a → InRange (amount_of a)
 unfolding amount_of
-amount_ranged Absent h = h
-amount_ranged (Time z) h = h
+amount_ranged None h = h
+amount_ranged (Some z) h = h
 
 value_ranged : (v : Value) → InTime v.min → InTime v.typ → InTime v.max → Ranged (triple_of v)
 unfolding triple_of

@@ -1,6 +1,6 @@
 -- From the loops to the whole: what annotating answers and leaves, for every input.
 -- Assumes nothing.
-use Rattle.std.specs.Prelude.{ℕ, ◌+◌, Bool, true, false, List, [], ◌++◌, length}
+use Rattle.std.specs.Prelude.{ℕ, Bool, true, false, List, [], ◌++◌, length, Result, Ok, Err}
 use Rattle.std.proofs.Math.Path.{◌≡◌, refl, ap}
 use Rattle.std.proofs.Common.{sym, ◌∙◌, true≢false, append-nil, arith}
 use borrow.Author.Tests.{eq-eqb, ne_eqb}
@@ -13,11 +13,10 @@ use Rattle.grammar.specs.Outcome.{read_file}
 use Rattle.tables.specs.Left.{cells_left, entries_left}
 use Rattle.readcells.specs.Files.{FileIs, slash_of}
 use Rattle.readcells.specs.Files as file
-use Rattle.readcells.specs.declared.Answer as reading
-use Rattle.readcells.specs.declared.Answer.TheVariants as answer
+use Rattle.readcells.specs.declared.Counts.{Counts}
+use Rattle.readcells.specs.Refusal.{Refusal}
 use Rattle.readcells.specs.declared.FileRead.{FileRead}
-use Rattle.sheetparts.specs.Form.{check_of}
-use Rattle.sheetparts.specs.declared.SheetCheck.TheVariants.{Good, Bad}
+use Rattle.sheetparts.specs.Form.{Good, faulty, check_of}
 use Rattle.sheetlaws.specs.Sheet.{decode}
 use Rattle.history.specs.Events.{Answer, sheet, refused, folded}
 use Rattle.history.specs.Sheet.{Slot, file_events, slots_of}
@@ -79,13 +78,22 @@ module _ (b : List ℕ) (bytes : Bytes b) (n m f : ℕ) (good : check_of b ≡ G
 -- 2. For every input
 
 -- how many cells were read: none of a refused text
-abbrev count_of : reading.Answer → ℕ
-count_of (answer.Read n m) = n
-count_of (answer.Refused k q) = 0
+abbrev count_of : Result Counts Refusal → ℕ
+count_of (Ok counts) = counts.cells
+count_of (Err why) = 0
+
+-- the number and the place of an answer that refuses
+abbrev number_of : Result Counts Refusal → ℕ
+number_of (Ok counts) = 0
+number_of (Err why) = why.number
+
+abbrev place_of : Result Counts Refusal → ℕ
+place_of (Ok counts) = 0
+place_of (Err why) = why.place
 
 module _ (start' text : List ℕ) (cr ir : ℕ) (u u' t t' out : List ℕ) where
   -- 10
-  pub unfit_sheet : (k p : ℕ) → check_of start' ≡ Bad k p → AnnotateIs start' (course start' text cr ir (length out)) u u t t out out (Refused 10 0)
+  pub unfit_sheet : (k p : ℕ) → check_of start' ≡ faulty k p → AnnotateIs start' (course start' text cr ir (length out)) u u t t out out (Refused 10 0)
   unfolding course decode answer_of out_of cells_out entries_out
   unfit_sheet k p e = rw e (record { says = refl; cells = refl; entries = refl; sheet = refl })
 
@@ -96,7 +104,7 @@ module _ (start' text : List ℕ) (cr ir : ℕ) (u u' t t' out : List ℕ) where
   unfit-length n m f e h = rw (e, ne_eqb (length out) (length start') h) (record { says = refl; cells = refl; entries = refl; sheet = refl })
 
   -- no cell is read before them
-  pub unfit_sheet_none : (k p : ℕ) → check_of start' ≡ Bad k p → 0 ≡ cell_count (course start' text cr ir (length out))
+  pub unfit_sheet_none : (k p : ℕ) → check_of start' ≡ faulty k p → 0 ≡ cell_count (course start' text cr ir (length out))
   unfolding course decode cell_count
   unfit_sheet_none k p e = rw e
 
@@ -113,37 +121,40 @@ module _ (start' text : List ℕ) (cr ir : ℕ) (u u' t t' out : List ℕ) where
     fits = rw (good, eq-eqb (length out) (length start') same)
 
     -- the text's own refusal
-    pub unread_text : (x q : ℕ) → r.answer ≡ answer.Refused x q
-        → AnnotateIs start' (course start' text cr ir (length out)) u u' t t' out out (Refused x q)
+    pub unread_text : (why : Refusal) → r.answer ≡ Err why
+        → AnnotateIs start' (course start' text cr ir (length out)) u u' t t' out out (Refused why.number why.place)
     unfolding answer_of out_of cells_out entries_out
-    unread_text x q e = rw fits (go (read_file cr ir text) (sym e ∙ file-is.says) file-is.cells file-is.entries)
+    unread_text why e = rw fits (go (read_file cr ir text) (sym e ∙ file-is.says) file-is.cells file-is.entries)
       where
-        go : (o : Res At) → answer.Refused x q ≡ file.answer_of o → u' ≡ cells_left o u → t' ≡ entries_left o t
-            → AnnotateIs start' (by_text text (sheet_at start' n m f) o) u u' t t' out out (Refused x q)
+        go : (o : Res At) → Err why ≡ file.answer_of o → u' ≡ cells_left o u → t' ≡ entries_left o t
+            → AnnotateIs start' (by_text text (sheet_at start' n m f) o) u u' t t' out out (Refused why.number why.place)
         go (fine st) e c d = let z : ◌≡◌ {A = ℕ} 0 1 = cc in absurd (omega arith)
-        go (bad y p) e c d = record { says = cc; cells = c; entries = d; sheet = refl }
+        go (bad y p) e c d =
+            let a : why.number ≡ y = ap number_of e in
+            let b : why.place ≡ p = ap place_of e in
+            record { says = rw (a, b); cells = c; entries = d; sheet = refl }
 
     -- a text that was read
-    read_as : (o : Res At) (count all : ℕ) → read_file cr ir text ≡ o → answer.Read count all ≡ file.answer_of o
-        → (st : At) × (read_file cr ir text ≡ fine st) × (count ≡ length st.book.log.cells)
-    read_as (fine st) count all e a = (st, e, cc)
-    read_as (bad y p) count all e a = let z : ◌≡◌ {A = ℕ} 0 1 = cc in absurd (omega arith)
+    read_as : (o : Res At) (counts : Counts) → read_file cr ir text ≡ o → Ok counts ≡ file.answer_of o
+        → (st : At) × (read_file cr ir text ≡ fine st) × (counts.cells ≡ length st.book.log.cells)
+    read_as (fine st) counts e a = (st, e, ap count_of a)
+    read_as (bad y p) counts e a = let z : ◌≡◌ {A = ℕ} 0 1 = cc in absurd (omega arith)
 
-    pub read_tables : (count all : ℕ) → r.answer ≡ answer.Read count all
+    pub read_tables : (counts : Counts) → r.answer ≡ Ok counts
         → (st : At) × (read_file cr ir text ≡ fine st) × (u' ≡ cells_left (fine st) u) × (t' ≡ entries_left (fine st) t) × (r.slash ≡ st.book.slash)
-        × Tables st u' t' count
-    read_tables count all e =
-        let a = read_as (read_file cr ir text) count all refl (sym e ∙ file-is.says) in
+        × Tables st u' t' counts.cells
+    read_tables counts e =
+        let a = read_as (read_file cr ir text) counts refl (sym e ∙ file-is.says) in
         let c : u' ≡ cells_left (fine a.0) u = file-is.cells ∙ ap (λ (o : Res At). cells_left o u) a.1 in
         let d : t' ≡ entries_left (fine a.0) t = file-is.entries ∙ ap (λ (o : Res At). entries_left o t) a.1 in
-        (a.0, a.1, c, d, file-is.slash ∙ ap slash_of a.1, tables-at a.0 u u' t t' count cr ir text a.1 a.2 c d)
+        (a.0, a.1, c, d, file-is.slash ∙ ap slash_of a.1, tables-at a.0 u u' t t' counts.cells cr ir text a.1 a.2 c d)
 
     -- and its history
-    pub read_text : Bytes start' → (count all : ℕ) → r.answer ≡ answer.Read count all → (a : Annotated) (out' : List ℕ)
-        → TextRun start' text r.slash n m f u' count t' out' a → AnnotateIs start' (course start' text cr ir (length out)) u u' t t' out out' a
+    pub read_text : Bytes start' → (counts : Counts) → r.answer ≡ Ok counts → (a : Annotated) (out' : List ℕ)
+        → TextRun start' text r.slash n m f u' counts.cells t' out' a → AnnotateIs start' (course start' text cr ir (length out)) u u' t t' out out' a
     unfolding answer_of out_of cells_out entries_out said
-    read_text bytes count all e a out' run =
-        let l = read_tables count all e in
+    read_text bytes counts e a out' run =
+        let l = read_tables counts e in
         let w = (rw l.4 at run) bytes l.0.book.log.cells l.0.book.log.items l.5.cells l.5.entries in
         rw (fits, l.1) (record { says = w.0; cells = l.2; entries = l.3; sheet = w.1 })
 
@@ -153,8 +164,8 @@ module _ (start' text : List ℕ) (cr ir : ℕ) (u u' t t' out : List ℕ) where
     count-is (fine st) e = rw (fits, e)
     count-is (bad y p) e = rw (fits, e)
 
-    pub unread_none : (x q : ℕ) → r.answer ≡ answer.Refused x q → 0 ≡ cell_count (course start' text cr ir (length out))
-    unread_none x q e = ap count_of (sym e ∙ file-is.says) ∙ count-is (read_file cr ir text) refl
+    pub unread_none : (why : Refusal) → r.answer ≡ Err why → 0 ≡ cell_count (course start' text cr ir (length out))
+    unread_none why e = ap count_of (sym e ∙ file-is.says) ∙ count-is (read_file cr ir text) refl
 
-    pub read_count : (count all : ℕ) → r.answer ≡ answer.Read count all → count ≡ cell_count (course start' text cr ir (length out))
-    read_count count all e = ap count_of (sym e ∙ file-is.says) ∙ count-is (read_file cr ir text) refl
+    pub read_count : (counts : Counts) → r.answer ≡ Ok counts → counts.cells ≡ cell_count (course start' text cr ir (length out))
+    read_count counts e = ap count_of (sym e ∙ file-is.says) ∙ count-is (read_file cr ir text) refl

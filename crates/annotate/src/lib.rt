@@ -2,16 +2,14 @@
 #![tactic(auto)]
 
 ghost use Rattle.std.specs.Prelude.{◌≡◌, ◌+◌, ◌*◌, ◌/◌, ◌≤◌, length};
-ghost use Rattle.sheetparts.specs.Form.{check_of};
-ghost use Rattle.sheetparts.specs.declared.SheetCheck.TheVariants.{Good};
+ghost use Rattle.sheetparts.specs.Form.{Good, check_of};
 ghost use Rattle.annotate.specs.Devices.{rows_there, any_device};
 ghost use Rattle.meaning.specs.Cells.{entries_before, is_refusal, TextRun};
 ghost use Rattle.meaning.specs.Meaning.{course, cell_count, AnnotateIs};
 
-use meaning::entryarcs::Plan;
+use applycells::{Lookup, Read};
+use meaning::entryarcs::{Plan, Start};
 use meaning::{Annotated, sheet};
-use readcells::Answer;
-use sheetparts::SheetCheck;
 
 // The answer, and how many cells of the text were read: none of a text that was refused or not reached.
 #[derive(Clone, Copy)]
@@ -36,26 +34,12 @@ fn is_refusal(went: Annotated) -> bool
     }
 }
 
-fn copy_sheet(start: &[u8], out: &mut [u8])
-    requires { length out.old ≡ length start.now }
-    ensures { out.new ≡ start.now }
-{
-    let mut k = 0;
-    while k < start.len() {
-        out[k] = start[k];
-        k += 1;
-    }
-}
-
 // How many of so many rows of entries are in the table.
+#[tactic(auto, unfolding(crate::specs::Devices::rows_there))]
 fn rows_there(entries: &[u64], count: usize) -> usize
     ensures { result ≡ rows_there entries.now count }
 {
-    let room = entries.len() / ENTRY_WORDS;
-    if count < room {
-        return count;
-    }
-    room
+    count.min(entries.len() / ENTRY_WORDS)
 }
 
 // Whether one of the first `count` rows is of a DEVICE: the index for it is made only then.
@@ -63,32 +47,27 @@ fn any_device(entries: &[u64], count: usize) -> bool
     ensures { result ≡ any_device entries.now (rows_there entries.now count) }
 {
     let rows = rows_there(entries, count);
-    let mut some = false;
-    let mut k = 0;
-    while k < rows {
+    for k in 0..rows {
         if entries[ENTRY_WORDS * k] == DEVICE {
-            some = true;
+            return true;
         }
-        k += 1;
     }
-    some
+    false
 }
 
 // Applies a text that was read, with so many cells and entries, to a starting sheet that was checked. After a refusal the output sheet equals the starting sheet.
 fn apply_text(
     start: &[u8],
-    text: &[u8],
     plan: Plan,
-    cells: &[u64],
+    read: Read,
     count: usize,
     all: usize,
-    entries: &[u64],
     out: &mut [u8],
 ) -> Annotated
-    requires { (check_of start.now ≡ Good plan.instances plan.arcs plan.first) × (7 * count ≤ length cells.now)
-        × (28 * entries_before cells.now count ≤ length entries.now) × (length out.old ≡ length start.now) }
-    ensures { TextRun start.now text.now plan.slash plan.instances plan.arcs plan.first cells.now count
-        entries.now out.new result }
+    requires { (check_of start.now ≡ Good plan.instances plan.arcs plan.first) × (7 * count ≤ length read.cells.now)
+        × (28 * entries_before read.cells.now count ≤ length read.entries.now) × (length out.old ≡ length start.now) }
+    ensures { TextRun start.now read.entry.text.now plan.slash plan.instances plan.arcs plan.first read.entry.cells.now count
+        read.entry.entries.now out.new result }
 {
     let mut places = [0u32; 4096];
     sheet::mark_instances(start, plan.instances, 12, &mut places);
@@ -96,17 +75,34 @@ fn apply_text(
     sheet::mark_arcs(start, plan.arcs, plan.first, &mut marks);
     let mut index = [0u32; 135168];
     bytype::index_types(start, plan.instances, &mut index);
-    let devices = any_device(entries, all);
+    let devices = any_device(read.entries, all);
     let mut ends = [0u32; 135168];
     byend::index_ends(start, plan.arcs, plan.first, devices, &mut ends);
-    copy_sheet(start, out);
-    let went = applycells::apply_cells(
-        start, text, plan, &places, &marks, &index, &ends, cells, count, entries, out,
-    );
+    out.copy_from_slice(start);
+    let lookup = Lookup {
+        start: Start {
+            sheet: start,
+            plan,
+            marks: &marks,
+        },
+        index: &index,
+        ends: &ends,
+    };
+    let went = applycells::apply_cells(lookup, read, &places, count, out);
     if is_refusal(went) {
-        copy_sheet(start, out);
+        out.copy_from_slice(start);
     }
     went
+}
+
+// A refusal, for which no cell counts.
+fn refused(number: u8, place: usize) -> Counted
+    ensures { (result.answer ≡ Annotated.Refused number place) × (result.cells ≡ 0) }
+{
+    Counted {
+        answer: Annotated::Refused { number, place },
+        cells: 0,
+    }
 }
 
 // Annotates the starting sheet with a file: the output sheet, which is as long, gets the annotated one, and the tables what was read. Each
@@ -124,57 +120,32 @@ pub fn annotate_counted(
         × (result.cells ≡ cell_count (course start.now text.now (length cells.old / 7)
         (length entries.old / 28) (length out.old))) }
 {
-    let check = sheetform::check_sheet(start);
-    match check {
-        SheetCheck::Bad { number, place } => Counted {
-            answer: Annotated::Refused {
-                number: 10,
-                place: 0,
-            },
-            cells: 0,
-        },
-        SheetCheck::Good {
-            instances,
-            arcs,
-            first_arc,
-        } => {
-            if out.len() != start.len() {
-                return Counted {
-                    answer: Annotated::Refused {
-                        number: 11,
-                        place: 0,
-                    },
-                    cells: 0,
-                };
-            }
-            let read = reader::read_file(text, cells, entries);
-            let answer = read.answer;
-            match answer {
-                Answer::Refused { number, place } => Counted {
-                    answer: Annotated::Refused {
-                        number: number,
-                        place: place,
-                    },
-                    cells: 0,
-                },
-                Answer::Read {
-                    cells: count,
-                    entries: all,
-                } => {
-                    let plan = Plan {
-                        instances: instances,
-                        arcs: arcs,
-                        first: first_arc,
-                        slash: read.slash,
-                    };
-                    let went = apply_text(start, text, plan, cells, count, all, entries, out);
-                    Counted {
-                        answer: went,
-                        cells: count,
-                    }
-                }
-            }
-        }
+    let Ok(outline) = sheetform::check_sheet(start) else {
+        return refused(10, 0);
+    };
+    if out.len() != start.len() {
+        return refused(11, 0);
+    }
+    let read = reader::read_file(text, cells, entries);
+    let counts = match read.answer {
+        Ok(counts) => counts,
+        Err(refusal) => return refused(refusal.number, refusal.place),
+    };
+    let plan = Plan {
+        instances: outline.instances,
+        arcs: outline.arcs,
+        first: outline.first_arc,
+        slash: read.slash,
+    };
+    let tables = Read {
+        text,
+        cells,
+        entries,
+    };
+    let answer = apply_text(start, plan, tables, counts.cells, counts.entries, out);
+    Counted {
+        answer,
+        cells: counts.cells,
     }
 }
 

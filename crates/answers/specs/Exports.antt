@@ -1,18 +1,17 @@
 -- The answers of the static library: each answer's numbers, by the definitions that the other contracts use.
 -- Assumes nothing.
-use Rattle.std.specs.Prelude.{◌≡◌, Bool, List, ℕ, ◌≤◌, ◌<◌, eqb, ltb}
+use Rattle.std.specs.Prelude.{◌≡◌, Bool, List, ℕ, ◌≤◌, ◌<◌, eqb, ltb, Ok, Err, Result}
 use Rattle.std.proofs.Common.{◌∙◌, ap, lt-ltb, le-ltb}
 use Rattle.classes.specs.Choice.{pick}
 use Rattle.grammar.specs.Machine.{Res, bad}
 use Rattle.grammar.specs.Reading.{At}
 use Rattle.grammar.specs.Outcome.{read_cell_of}
-use Rattle.patch.specs.Answer.{Answer}
-use Rattle.patch.specs.Answer.TheVariants as answer
+use Rattle.patch.specs.Counts.{Counts}
+use Rattle.patch.specs.Refusal.{Refusal}
 use Rattle.patch.specs.FileRead.{FileRead}
 use Rattle.tables.specs.Left.{cells_left, entries_left}
 use Rattle.patch.specs.Files.{answer_of, slash_of, unit_of, texts_of, FileIs}
-use Rattle.sheetparts.specs.declared.SheetCheck.{SheetCheck}
-use Rattle.sheetparts.specs.declared.SheetCheck.TheVariants as sheet
+use Rattle.sheetparts.specs.Form.{SheetCheck}
 use Rattle.answers.specs.declared.ReadNumbers.{ReadNumbers}
 use Rattle.answers.specs.declared.SheetNumbers.{SheetNumbers}
 use Rattle.answers.specs.declared.ResultNumbers.{ResultNumbers}
@@ -25,9 +24,9 @@ use Rattle.patch.specs.Patched.TheVariants as patched
 use Rattle.patch.specs.Meaning as patching
 
 -- 0 and the counts, the divider (1 for /) and the time scale; or the refusal's number and its place, and nothing else
-abbrev pub file_numbers : Answer → Bool → ℕ → List ℕ → ReadNumbers
-file_numbers (answer.Read n m) slash unit texts = record { number = 0; place = 0; cells = n; entries = m; slash = pick slash 1 0; scale = unit; texts = texts }
-file_numbers (answer.Refused k q) slash unit texts = record { number = k; place = q; cells = 0; entries = 0; slash = 0; scale = 0; texts = texts }
+abbrev pub file_numbers : Result Counts Refusal → Bool → ℕ → List ℕ → ReadNumbers
+file_numbers (Ok counts) slash unit texts = record { number = 0; place = 0; cells = counts.cells; entries = counts.entries; slash = pick slash 1 0; scale = unit; texts = texts }
+file_numbers (Err why) slash unit texts = record { number = why.number; place = why.place; cells = 0; entries = 0; slash = 0; scale = 0; texts = texts }
 
 abbrev pub read_numbers : Res At → ReadNumbers
 read_numbers o = file_numbers (answer_of o) (slash_of o) (unit_of o) (texts_of o)
@@ -53,8 +52,8 @@ cell-by slash scale cr ir s g h = rw (le-ltb 1 slash g, le-ltb 17 scale h)
 
 -- 0 and the counts; or refusal 10 at 0
 abbrev pub sheet_numbers : SheetCheck → SheetNumbers
-sheet_numbers (sheet.Good n m f) = record { number = 0; place = 0; instances = n; arcs = m }
-sheet_numbers (sheet.Bad k p) = record { number = 10; place = 0; instances = 0; arcs = 0 }
+sheet_numbers (Ok o) = record { number = 0; place = 0; instances = o.instances; arcs = o.arcs }
+sheet_numbers (Err d) = record { number = 10; place = 0; instances = 0; arcs = 0 }
 
 -- 0; or the refusal's number and its place, in the file
 abbrev pub result_of : Annotated → ResultNumbers

@@ -3,12 +3,13 @@
 
 ghost use Rattle.std.specs.Prelude.{◌≡◌, false, replicate};
 ghost use Rattle.classes.specs.Choice.{pick};
+ghost use Rattle.patch.specs.Tokens.{Refused};
 ghost use Rattle.answers.specs.Exports.{file_numbers, sheet_numbers, result_of, patched_of};
 
 use patch::meaning::Annotated;
-use patch::readcells::{Answer, FileRead};
+use patch::readcells::FileRead;
 use patch::swap::Patched;
-use sheetparts::SheetCheck;
+use sheetparts::{Fault, Outline};
 
 // What stands below, for the crates above.
 pub use patch;
@@ -47,42 +48,32 @@ fn bit(flag: bool) -> u64
 pub fn numbers(read: FileRead) -> ReadNumbers
     ensures { result ≡ file_numbers read.answer read.slash read.unit read.texts }
 {
-    let answer = read.answer;
     let texts = read.texts;
-    match answer {
-        Answer::Refused { number, place } => {
-            ReadNumbers {
-                number: number as u64,
-                place: place as u64,
-                cells: 0,
-                entries: 0,
-                slash: 0,
-                scale: 0,
-                texts: texts,
-            }
-        }
-        Answer::Read {
-            cells: c,
-            entries: e,
-        } => {
-            let slash = read.slash;
-            let unit = read.unit;
-            ReadNumbers {
-                number: 0,
-                place: 0,
-                cells: c as u64,
-                entries: e as u64,
-                slash: bit(slash),
-                scale: unit as u64,
-                texts: texts,
-            }
-        }
+    match read.answer {
+        Err(refusal) => ReadNumbers {
+            number: refusal.number as u64,
+            place: refusal.place as u64,
+            cells: 0,
+            entries: 0,
+            slash: 0,
+            scale: 0,
+            texts,
+        },
+        Ok(counts) => ReadNumbers {
+            number: 0,
+            place: 0,
+            cells: counts.cells as u64,
+            entries: counts.entries as u64,
+            slash: bit(read.slash),
+            scale: read.unit as u64,
+            texts,
+        },
     }
 }
 
 // The answer where the divider or the time scale is none that a file can have: 255, which is no refusal's number.
 pub fn no_setting() -> ReadNumbers
-    ensures { result ≡ file_numbers (Answer.Refused 255 0) false 6 (replicate 14 0) }
+    ensures { result ≡ file_numbers (Refused 255 0) false 6 (replicate 14 0) }
 {
     ReadNumbers {
         number: 255,
@@ -105,28 +96,22 @@ pub struct ResultNumbers {
 }
 
 // The numbers of a sheet's check.
-pub fn sheet_numbers(check: SheetCheck) -> SheetNumbers
+pub fn sheet_numbers(check: Result<Outline, Fault>) -> SheetNumbers
     ensures { result ≡ sheet_numbers check }
 {
     match check {
-        SheetCheck::Bad { number, place } => SheetNumbers {
+        Err(_) => SheetNumbers {
             number: 10,
             place: 0,
             instances: 0,
             arcs: 0,
         },
-        SheetCheck::Good {
-            instances,
-            arcs,
-            first_arc,
-        } => {
-            SheetNumbers {
-                number: 0,
-                place: 0,
-                instances: instances as u64,
-                arcs: arcs as u64,
-            }
-        }
+        Ok(outline) => SheetNumbers {
+            number: 0,
+            place: 0,
+            instances: outline.instances as u64,
+            arcs: outline.arcs as u64,
+        },
     }
 }
 

@@ -1,11 +1,12 @@
 -- A cell's keyword and its entries, and the loop over cells, keep to the history.
 -- Assumes nothing.
-use Rattle.std.specs.Prelude.{ℕ, suc, ◌+◌, ◌*◌, ◌<◌, ◌≡◌, Bool, length, get_or, take}
+use Rattle.std.specs.Prelude.{ℕ, suc, ◌*◌, ◌<◌, ◌≡◌, Bool, length, get_or, take, Option, Some, None}
 use Rattle.std.proofs.Math.Path.{refl, subst}
 use Rattle.std.proofs.Common.{◌∙◌, arith, take_all}
 use Rattle.std.proofs.Math.Bool.{true, false}
 use mathlib.Core.List.{List, [], ◌∷◌, ◌++◌, append_assoc, append-nil}
-use Rattle.std.proofs.Math.Option.{Option, none, some}
+use Rattle.std.proofs.Math.Option as maybe
+use Rattle.std.proofs.Math.Option.{none, some}
 use Rattle.std.proofs.Math.Dec.{eqb}
 use Rattle.classes.specs.Choice.{pick}
 use Rattle.wire.specs.Wire.{Bytes}
@@ -14,11 +15,8 @@ use Rattle.names.specs.Name.{canon, part_of}
 use Rattle.grammar.specs.declared.Cell as read
 use Rattle.grammar.specs.Meaning.{Item}
 use Rattle.meaning.specs.Sound.{total}
-use Rattle.sheetparts.specs.Form.{check_of, type_at}
-use Rattle.sheetparts.specs.declared.SheetCheck.TheVariants.{Good}
+use Rattle.sheetparts.specs.Form.{Good, check_of, type_at}
 use Rattle.meaning.specs.Find.{find_instance}
-use Rattle.meaning.specs.FoundType.{Found}
-use Rattle.meaning.specs.FoundType.TheVariants.{At, Nothing}
 use Rattle.views.specs.Views.{cell_at}
 use Rattle.history.specs.Events.{nothing, step, final, fails_with, Event, any_of, or_else, when, stuck, judge, folded}
 use Rattle.history.proofs.EventLaws.{fold_step}
@@ -48,7 +46,7 @@ module _ (b : List ℕ) (bytes : Bytes b) (n m f : ℕ) (good : check_of b ≡ G
   unfolding judge stuck cell_event or_else when
   own_judged l now c = rw (quiet 15 now l, quiet 16 now l) (go (cell_number (records_at b n m f) c))
     where
-      go : (o : Option ℕ) → or_else o none ≡ o
+      go : (o : maybe.Option ℕ) → or_else o none ≡ o
       go none = refl
       go (some x) = refl
 
@@ -60,10 +58,10 @@ module _ (b : List ℕ) (bytes : Bytes b) (n m f : ℕ) (good : check_of b ≡ G
   WhomIs Every c = For b n Every c × (cell_number (records_at b n m f) c ≡ none)
   WhomIs (Nobody x) c = cell_number (records_at b n m f) c ≡ some x
 
-  found_whom : (path : List ℕ) (c : Cell ℕ) → c.part ≡ at path → (o : Found) → find_instance b path n 12 ≡ o → WhomIs (typed_as b c.type o) c
+  found_whom : (path : List ℕ) (c : Cell ℕ) → c.part ≡ at path → (o : Option ℕ) → find_instance b path n 12 ≡ o → WhomIs (typed_as b c.type o) c
   unfolding typed_as
-  found_whom path c p Nothing e = cell_absent b bytes n m f good c path p e
-  found_whom path c p (At q) e = go (same_text (type_at b q) c.type) refl
+  found_whom path c p None e = cell_absent b bytes n m f good c path p e
+  found_whom path c p (Some q) e = go (same_text (type_at b q) c.type) refl
     where
       go : (t : Bool) → same_text (type_at b q) c.type ≡ t → WhomIs (pick t (One q) (Nobody 13)) c
       go true d =

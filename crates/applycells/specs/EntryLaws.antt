@@ -10,8 +10,7 @@ use Rattle.std.proofs.Math.ListN.{length, get_or}
 use Rattle.wire.specs.Wire.{Bytes}
 use Rattle.grammar.specs.Meaning.{Item}
 use Rattle.meaning.specs.Sound.{SoundItem}
-use Rattle.sheetparts.specs.Form.{check_of}
-use Rattle.sheetparts.specs.declared.SheetCheck.TheVariants.{Good}
+use Rattle.sheetparts.specs.Form.{Good, check_of}
 use Rattle.tables.specs.Layout.{entry_row}
 use Rattle.history.specs.Events.{Event, judge, step, final}
 use Rattle.history.proofs.EventLaws.{fold_step, fold-stop}

@@ -1,6 +1,6 @@
 -- Which instances a cell means: bytes against history; a cell with a path, and its entries.
 -- Assumes nothing.
-use Rattle.std.specs.Prelude.{ℕ, ◌<◌, ◌≡◌, Bool, List}
+use Rattle.std.specs.Prelude.{ℕ, ◌<◌, ◌≡◌, Bool, List, Some, None}
 use Rattle.std.proofs.Math.Path.{refl, sym}
 use Rattle.std.proofs.Common.{◌∙◌}
 use Rattle.std.proofs.Math.Bool.{true, false, not}
@@ -10,11 +10,9 @@ use Rattle.wire.specs.Wire.{Bytes}
 use Rattle.names.specs.Order.{same_text}
 use Rattle.names.specs.Name.{same_name, both}
 use Rattle.names.specs.Laws.{name_exactly, same_self}
-use Rattle.sheetparts.specs.Form.{path_at, type_at, check_of}
-use Rattle.sheetparts.specs.declared.SheetCheck.TheVariants.{Good}
+use Rattle.sheetparts.specs.Form.{Good, path_at, type_at, check_of}
 use Rattle.sheetlaws.specs.Sheet.{in_end, nth}
 use Rattle.sheet.specs.Find.{find_instance, instance-found, instance_absent}
-use Rattle.sheet.specs.declared.Found.TheVariants.{At, Nothing}
 use Rattle.history.specs.Events.{any_of}
 use Rattle.history.specs.Sheet.{Instance, Values, Entry, at, every, Cell, part_is, unapplied, applies, lacks, cell_number, matches, below}
 use Rattle.amounts.specs.FoundSlots.{instance-at, instances_length, instance_once}
@@ -49,7 +47,7 @@ module _ (b : List ℕ) (bytes : Bytes b) (n m f : ℕ) (good : check_of b ≡ G
     other_path path k x = not_so _ (λ e. x ((name_exactly _ _).0 e))
 
     -- 12, 'no such instance'
-    pub cell_absent : (path : List ℕ) → c.part ≡ at path → find_instance b path n 12 ≡ Nothing → cell_number (records_at b n m f) c ≡ some 12
+    pub cell_absent : (path : List ℕ) → c.part ≡ at path → find_instance b path n 12 ≡ None → cell_number (records_at b n m f) c ≡ some 12
     unfolding cell_number unapplied
     cell_absent path e g =
         rw (
@@ -62,11 +60,11 @@ module _ (b : List ℕ) (bytes : Bytes b) (n m f : ℕ) (good : check_of b ≡ G
         )
 
     -- the instance that is found
-    pub cell-found : (path : List ℕ) (q : ℕ) → find_instance b path n 12 ≡ At q → (k : ℕ) × (k < n) × (q ≡ place_of b k) × (path_at b q ≡ path)
+    pub cell-found : (path : List ℕ) (q : ℕ) → find_instance b path n 12 ≡ Some q → (k : ℕ) × (k < n) × (q ≡ place_of b k) × (path_at b q ≡ path)
     cell-found path q g = instance-found b path n 12 q g
 
     -- 13, 'type differs'
-    pub cell_differs : (path : List ℕ) (q : ℕ) → c.part ≡ at path → find_instance b path n 12 ≡ At q → same_text (type_at b q) c.type ≡ false
+    pub cell_differs : (path : List ℕ) (q : ℕ) → c.part ≡ at path → find_instance b path n 12 ≡ Some q → same_text (type_at b q) c.type ≡ false
         → cell_number (records_at b n m f) c ≡ some 13
     unfolding cell_number unapplied
     cell_differs path q e g d =
@@ -90,7 +88,7 @@ module _ (b : List ℕ) (bytes : Bytes b) (n m f : ℕ) (good : check_of b ≡ G
             not-both l r false z = refl
 
     -- its type is the cell's: no refusal
-    pub cell_same : (path : List ℕ) (q : ℕ) → c.part ≡ at path → find_instance b path n 12 ≡ At q → same_text (type_at b q) c.type ≡ true
+    pub cell_same : (path : List ℕ) (q : ℕ) → c.part ≡ at path → find_instance b path n 12 ≡ Some q → same_text (type_at b q) c.type ≡ true
         → cell_number (records_at b n m f) c ≡ none
     unfolding cell_number
     cell_same path q e g d =

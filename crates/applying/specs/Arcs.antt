@@ -11,8 +11,7 @@ use Rattle.std.proofs.Math.Seq.{paste}
 use borrow.Author.Tests.{ltb-true, ltb-false, leb-true, eqb-true, eqb-false, lt-ltb, le-ltb}
 use Rattle.classes.specs.Choice.{pick, and, or}
 use Rattle.wire.specs.Wire.{Bytes, be64, be_bytes}
-use Rattle.sheetparts.specs.Form.{values_at, check_of}
-use Rattle.sheetparts.specs.declared.SheetCheck.TheVariants.{Good}
+use Rattle.sheetparts.specs.Form.{Good, values_at, check_of}
 use Rattle.sheetlaws.specs.Sheet.{place}
 use Rattle.history.specs.Events.{limit, Value, holds, fails, summed, step, final, fails_with, any_of}
 use Rattle.history.proofs.EventLaws.{any_cong}

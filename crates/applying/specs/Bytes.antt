@@ -1,15 +1,13 @@
 -- What the program does to the bytes of a sheet for one entry: `b` is the starting sheet, in which everything is looked up, and `out` the sheet
 -- that is written.
 -- Assumes nothing.
-use Rattle.std.specs.Prelude.{ℕ, zero, suc, Bool, false, List, eqb}
+use Rattle.std.specs.Prelude.{ℕ, zero, suc, Bool, false, List, eqb, Option, Some, None}
 use Rattle.classes.specs.Choice.{pick, and, or}
 use Rattle.names.specs.Order.{same_text}
 use Rattle.names.specs.Name.{canon, full, same_name, one_below, part_of}
 use Rattle.sheetparts.specs.Form.{key_at, values_at, path_at, type_at}
 use Rattle.sheetlaws.specs.Sheet.{in_end, nth, place}
 use Rattle.sheet.specs.Find.{wanted, find_arc}
-use Rattle.sheet.specs.declared.Found.{Found}
-use Rattle.sheet.specs.declared.Found.TheVariants.{At, Nothing}
 use Rattle.grammar.specs.declared.Entry.{Entry}
 use Rattle.amounts.specs.Amounts.{lesser, arc_refusal, arc_written}
 
@@ -34,7 +32,7 @@ device_hit b text slash h p q =
     (same_name (key_at b q).second (full (path_at b p) (canon slash (part_of text h.from1 h.to1)))))
 
 -- any other: its arc in the instance at p, among m arcs from f on
-unfoldable pub arc_of : (b text : List ℕ) (slash : Bool) (m f : ℕ) (h : Entry) → ℕ → Found
+unfoldable pub arc_of : (b text : List ℕ) (slash : Bool) (m f : ℕ) (h : Entry) → ℕ → Option ℕ
 arc_of b text slash m f h p =
     find_arc b (wanted slash h.kind h.edge1 h.edge2 (path_at b p) (part_of text h.from1 h.to1) (part_of text h.from2 h.to2)) m f
 
@@ -51,13 +49,13 @@ module _ (b text : List ℕ) (slash : Bool) (n m f : ℕ) (h : Entry) (rows : Li
   abbrev pub written_on : ℕ → List ℕ → List ℕ
   written_on q out = arc_written out (values_at b q) rows adds 18
 
-  unfoldable pub found_refusal : List ℕ → Found → ℕ
-  found_refusal out (At q) = refusal_on out q
-  found_refusal out Nothing = 14
+  unfoldable pub found_refusal : List ℕ → Option ℕ → ℕ
+  found_refusal out (Some q) = refusal_on out q
+  found_refusal out None = 14
 
-  unfoldable pub found_written : List ℕ → Found → List ℕ
-  found_written out (At q) = written_on q out
-  found_written out Nothing = out
+  unfoldable pub found_written : List ℕ → Option ℕ → List ℕ
+  found_written out (Some q) = written_on q out
+  found_written out None = out
 
   unfoldable pub device_refusal : List ℕ → ℕ → ℕ
   device_refusal out p =

@@ -11,8 +11,7 @@ use Rattle.wire.specs.Wire.{Bytes}
 use Rattle.names.specs.Order.{same_text}
 use Rattle.names.specs.Name.{one_below, both}
 use Rattle.names.specs.Laws.{name_exactly, path_determined}
-use Rattle.sheetparts.specs.Form.{key_at, path_at, type_at, check_of}
-use Rattle.sheetparts.specs.declared.SheetCheck.TheVariants.{Good}
+use Rattle.sheetparts.specs.Form.{Good, key_at, path_at, type_at, check_of}
 use Rattle.sheetlaws.specs.Sheet.{place}
 use Rattle.grammar.specs.Meaning.{Item}
 use Rattle.history.specs.Events.{any_of, final, step}

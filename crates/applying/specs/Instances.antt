@@ -1,6 +1,6 @@
 -- Which arcs an entry means in an instance, and what it does to them: bytes against history.
 -- Assumes nothing.
-use Rattle.std.specs.Prelude.{ℕ, ◌<◌, ◌≤◌, ◌≡◌, Bool, not, List, []}
+use Rattle.std.specs.Prelude.{ℕ, ◌<◌, ◌≤◌, ◌≡◌, Bool, not, List, [], Option, Some, None}
 use Rattle.std.proofs.Math.Path.{refl, sym, fun_ext}
 use Rattle.std.proofs.Common.{ap, ◌∙◌, arith}
 use Rattle.std.proofs.Math.Bool.{true, false}
@@ -11,13 +11,10 @@ use Rattle.classes.specs.Choice.{pick, and}
 use Rattle.wire.specs.Wire.{Bytes}
 use Rattle.names.specs.Name.{canon, full, same_name, one_below, part_of}
 use Rattle.names.specs.Laws.{same_self}
-use Rattle.sheetparts.specs.Form.{key_at, values_at, path_at, one_end, check_of}
+use Rattle.sheetparts.specs.Form.{Good, key_at, values_at, path_at, one_end, check_of}
 use Rattle.sheetparts.specs.Form as form
-use Rattle.sheetparts.specs.declared.SheetCheck.TheVariants.{Good}
 use Rattle.sheetlaws.specs.Sheet.{place}
 use Rattle.sheet.specs.Find.{second_wanted, wanted, arc-found, arc_absent}
-use Rattle.sheet.specs.declared.Found.{Found}
-use Rattle.sheet.specs.declared.Found.TheVariants.{At, Nothing}
 use Rattle.grammar.specs.Meaning.{Item}
 use Rattle.history.specs.Ranges.{InRange}
 use Rattle.history.specs.Events.{any_of}
@@ -149,7 +146,7 @@ module _ (b : List ℕ) (bytes : Bytes b) (n m f : ℕ) (good : check_of b ≡ G
   abbrev pub hits : ℕ → ℕ → Bool
   hits p j = device_hit b text slash i.head p (place b j f)
 
-  abbrev pub found : ℕ → Found
+  abbrev pub found : ℕ → Option ℕ
   found p = arc_of b text slash m f i.head p
 
   -- the entry, applied to the instance at p, means arc number j
@@ -164,7 +161,7 @@ module _ (b : List ℕ) (bytes : Bytes b) (n m f : ℕ) (good : check_of b ≡ G
       ∙ device-means text slash word i (path_at b p) (key_at b (place b j f)) d)
 
   -- any other: the arc that the program finds, and no other
-  pub found-is : (p q : ℕ) → eqb i.head.kind 4 ≡ false → found p ≡ At q
+  pub found-is : (p q : ℕ) → eqb i.head.kind 4 ≡ false → found p ≡ Some q
       → (j : ℕ) × (j < m) × (q ≡ place b j f) × ((l : ℕ) → means p l ≡ eqb l j)
   unfolding arc_of
   found-is p q d o =
@@ -185,7 +182,7 @@ module _ (b : List ℕ) (bytes : Bytes b) (n m f : ℕ) (good : check_of b ≡ G
           rw (arc-past b bytes n m f good g l c, ne_eqb l j (λ x. omega arith))
 
   -- nor where it finds none
-  pub absent_is : (p : ℕ) → eqb i.head.kind 4 ≡ false → found p ≡ Nothing → (l : ℕ) → l < m → means p l ≡ false
+  pub absent_is : (p : ℕ) → eqb i.head.kind 4 ≡ false → found p ≡ None → (l : ℕ) → l < m → means p l ≡ false
   unfolding arc_of
   absent_is p d o l h =
       let g = matches (path_at b p) e in
@@ -216,10 +213,10 @@ module _ (b : List ℕ) (bytes : Bytes b) (n m f : ℕ) (good : check_of b ≡ G
     unfolding refusal_in device_refusal found_refusal first_of
     in_refusal p now fine = go (eqb i.head.kind 4) refl
       where
-        other : (x : Found) → found p ≡ x → eqb i.head.kind 4 ≡ false
+        other : (x : Option ℕ) → found p ≡ x → eqb i.head.kind 4 ≡ false
             → found_refusal b text slash n m f i.head rows (bytes_of now) x
             ≡ refusal_at (records_at b n m f) (path_at b p) e now
-        other (At q) a d =
+        other (Some q) a d =
             let w = found-is p q d a in
             let j = w.0 in
             rw (
@@ -229,7 +226,7 @@ module _ (b : List ℕ) (bytes : Bytes b) (n m f : ℕ) (good : check_of b ≡ G
               below_one (arc_fails e 15 now) m j w.1,
               below_one (arc_fails e 16 now) m j w.1,
             ) (laws.arc-refusal now fine j w.1)
-        other Nothing a d =
+        other None a d =
             rw (refusal-by p now (λ l. false) (absent_is p d a), below_none (λ l. false) m (λ j h. refl))
 
         go : (t : Bool) → eqb i.head.kind 4 ≡ t
@@ -250,16 +247,16 @@ module _ (b : List ℕ) (bytes : Bytes b) (n m f : ℕ) (good : check_of b ≡ G
     unfolding refusal_in written_in device_refusal device_written found_refusal found_written
     in_written p now fine = go (eqb i.head.kind 4) refl
       where
-        other : (x : Found) → found p ≡ x → eqb i.head.kind 4 ≡ false
+        other : (x : Option ℕ) → found p ≡ x → eqb i.head.kind 4 ≡ false
             → found_refusal b text slash n m f i.head rows (bytes_of now) x ≡ 0
             → (found_written b text slash n m f i.head rows (bytes_of now) x
             ≡ bytes_of (changed_at e (means p) now))
             × Fine (changed_at e (means p) now)
-        other (At q) a d z =
+        other (Some q) a d z =
             let w = found-is p q d a in
             let same : means p ≡ (λ l. eqb l w.0) = fun_ext w.3 in
             rw (w.2, same) (laws.arc-written now fine w.0 w.1 (rw w.2 at z))
-        other Nothing a d z = absurd (omega arith)
+        other None a d z = absurd (omega arith)
 
         all : eqb i.head.kind 4 ≡ true → (l : ℕ) (t : Bool) → ltb l m ≡ t → means p l ≡ and (hits p l) t
         all d l true x = sym (hit-is p l (ltb-true l m x) d) ∙ sym (and-all (hits p l))

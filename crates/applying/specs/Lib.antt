@@ -15,7 +15,6 @@ pub use Rattle.sound.specs.Sound
 pub use Rattle.sheet.specs.Find
 pub use Rattle.sheet.specs.Same
 pub use Rattle.sheet.specs.Search
-pub use Rattle.sheet.specs.declared.Found as FoundType
 pub use Rattle.amounts.specs.SlotArcs
 pub use Rattle.amounts.specs.Current
 pub use Rattle.amounts.specs.FoundSlots

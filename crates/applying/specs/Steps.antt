@@ -7,8 +7,7 @@ use Rattle.classes.specs.Choice.{and}
 use Rattle.wire.specs.Wire.{Bytes}
 use Rattle.names.specs.Order.{same_text}
 use Rattle.grammar.specs.Meaning.{Item}
-use Rattle.sheetparts.specs.Form.{check_of, path_at, type_at}
-use Rattle.sheetparts.specs.declared.SheetCheck.TheVariants.{Good}
+use Rattle.sheetparts.specs.Form.{Good, check_of, path_at, type_at}
 use Rattle.history.specs.Events.{step, final, any_of}
 use Rattle.history.specs.Sheet.{Instance, Slot, Values, Entry, Cell, at, every, applies, matches, entry_event}
 use Rattle.history.specs.Ranges.{InRange}

@@ -1,7 +1,7 @@
 -- The slots of one arc, run through a cell and through the cells of a file, keep to the history.
 -- Assumes nothing.
 use Prim.Native.Nat.{ℕ, zero, suc, ◌+◌, ◌-◌, ◌*◌, ◌<◌, ◌≤◌}
-use Rattle.std.specs.Prelude.{◌≡◌, Bool, length, get_or, take, drop}
+use Rattle.std.specs.Prelude.{◌≡◌, Bool, length, get_or, take, drop, Option, Some, None}
 use Rattle.std.proofs.Math.Path.{refl, sym, ap, subst, fun_ext}
 use Rattle.std.proofs.Common.{◌∙◌, arith, add-zero, length-append, length-take-le}
 use Rattle.std.proofs.Math.Bool.{true, false}
@@ -16,12 +16,9 @@ use Rattle.names.specs.Name.{canon, part_of}
 use Rattle.grammar.specs.declared.Cell as read
 use Rattle.grammar.specs.Meaning.{Item}
 use Rattle.meant.specs.Sound.{Each, SoundItem, total}
-use Rattle.sheetparts.specs.Form.{check_of, type_at}
-use Rattle.sheetparts.specs.declared.SheetCheck.TheVariants.{Good}
+use Rattle.sheetparts.specs.Form.{Good, check_of, type_at}
 use Rattle.sheetlaws.specs.Sheet.{place}
 use Rattle.meant.specs.Find.{find_instance}
-use Rattle.meant.specs.FoundType.{Found}
-use Rattle.meant.specs.FoundType.TheVariants.{At, Nothing}
 use Rattle.views.specs.Views.{cell_at}
 use Rattle.history.specs.Events.{nothing, Event}
 use Rattle.history.specs.Ranges.{Fits}
@@ -50,10 +47,10 @@ use Rattle.arcrun.specs.RunLaws.{arc_of_lem, held_same, stepped_fine, gives_is, 
 -- 1. Which instances a cell applies to
 
 module _ (b : List ℕ) (bytes : Bytes b) (n m f : ℕ) (good : check_of b ≡ Good n m f) where
-  found_of : (path : List ℕ) (c : Cell Where) → c.part ≡ part.at path → (o : Found) → find_instance b path n 12 ≡ o → Of b n m f (typed_as b c.type o) c
+  found_of : (path : List ℕ) (c : Cell Where) → c.part ≡ part.at path → (o : Option ℕ) → find_instance b path n 12 ≡ o → Of b n m f (typed_as b c.type o) c
   unfolding typed_as
-  found_of path c p Nothing e = cell_absent b bytes n m f good c path p e
-  found_of path c p (At q) e = go (same_text (type_at b q) c.type) refl
+  found_of path c p None e = cell_absent b bytes n m f good c path p e
+  found_of path c p (Some q) e = go (same_text (type_at b q) c.type) refl
     where
       go : (t : Bool) → same_text (type_at b q) c.type ≡ t → Of b n m f (pick t (One q) (Nobody 13)) c
       go true d = let k = cell-found b bytes n m f good c path q e in (k.0, k.1, k.2, rw k.3 p, d)

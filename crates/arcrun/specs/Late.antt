@@ -15,8 +15,7 @@ use Rattle.names.specs.Name.{part_of}
 use Rattle.grammar.specs.declared.Cell as read
 use Rattle.grammar.specs.Meaning.{Item}
 use Rattle.meant.specs.Sound.{SoundItem, total}
-use Rattle.sheetparts.specs.Form.{check_of}
-use Rattle.sheetparts.specs.declared.SheetCheck.TheVariants.{Good}
+use Rattle.sheetparts.specs.Form.{Good, check_of}
 use Rattle.sheetlaws.specs.Sheet.{place}
 use Rattle.views.specs.Views.{cell_at}
 use Rattle.history.specs.Events.{Event}

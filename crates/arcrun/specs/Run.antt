@@ -8,14 +8,12 @@ use Rattle.wire.specs.Wire.{Bytes}
 use Rattle.grammar.specs.declared.Cell as read
 use Rattle.grammar.specs.Meaning.{Item}
 use Rattle.names.specs.Order.{same_text}
-use Rattle.sheetparts.specs.Form.{check_of, path_at, type_at}
-use Rattle.sheetparts.specs.declared.SheetCheck.TheVariants.{Good}
+use Rattle.sheetparts.specs.Form.{Good, check_of, path_at, type_at}
 use Rattle.sheetlaws.specs.Sheet.{place, in_end, nth}
 use Rattle.meant.specs.Sound.{total}
 use Rattle.views.specs.Views.{head_at}
 use Rattle.meant.specs.Amounts.{arc_refusal, arc_written}
 use Rattle.history.specs.Events.{Event}
-use Rattle.history.specs.Faults.{Fault}
 use Rattle.history.specs.Sheet as part
 use Rattle.history.specs.Sheet.{every, Slot, Values, Cell, arc_slots, cell_number, entry_event, events, file_events}
 use Rattle.meant.specs.Says.{entry_of, cell_of, cells_of}

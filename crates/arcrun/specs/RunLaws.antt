@@ -14,8 +14,7 @@ use Rattle.std.proofs.Math.Seq.{length-take-le}
 use borrow.Author.Tests.{eqb-true, eq-eqb, ne_eqb}
 use Rattle.classes.specs.Choice.{pick, and}
 use Rattle.wire.specs.Wire.{Bytes}
-use Rattle.sheetparts.specs.Form.{check_of}
-use Rattle.sheetparts.specs.declared.SheetCheck.TheVariants.{Good}
+use Rattle.sheetparts.specs.Form.{Good, check_of}
 use Rattle.sheetlaws.specs.Sheet.{place}
 use Rattle.grammar.specs.Meaning.{Item}
 use Rattle.meant.specs.Sound.{SoundItem}

@@ -12,8 +12,7 @@ use Rattle.wire.specs.Wire.{Bytes}
 use Rattle.grammar.specs.declared.Cell as read
 use Rattle.grammar.specs.Meaning.{Item}
 use Rattle.meant.specs.Sound.{SoundItem, total}
-use Rattle.sheetparts.specs.Form.{check_of}
-use Rattle.sheetparts.specs.declared.SheetCheck.TheVariants.{Good}
+use Rattle.sheetparts.specs.Form.{Good, check_of}
 use Rattle.sheetlaws.specs.Sheet.{place}
 use Rattle.views.specs.Views.{head_at}
 use Rattle.history.specs.Events.{Supply, nothing, supplied, any_of, Event, affected}

@@ -1,18 +1,14 @@
-// One arc and the entries of two texts, the old file and the incoming cell: its 18 values run through them. `side` tells which text a table
-// belongs to: false the file, true the incoming cell.
+// One arc and the entries of a text, the old file's or the incoming cell's: its 18 values run through them.
 #![tactic(auto)]
 
 ghost use Rattle.std.specs.Prelude.{◌≡◌, [], ◌∷◌, ◌+◌, ◌≤◌, ◌<◌, length};
-ghost use Rattle.classes.specs.Choice.{pick};
 ghost use Rattle.sheetlaws.specs.Sheet.{ar_next};
 ghost use Rattle.meant.specs.Find.{InstanceSearch};
 ghost use Rattle.meant.specs.Whom.{InSheet};
 ghost use Rattle.meant.specs.Scratch.{masked, masked_word};
 ghost use Rattle.arcrun.specs.Run.{entry_number, entry_state};
 
-use meant::amounts;
-use meant::entryarcs::Plan;
-use meant::meaning::Whom;
+use meant::{Asked, amounts};
 
 // The least fault: its event in the new file, from 0 on, its number, and its word.
 #[derive(Clone, Copy)]
@@ -26,9 +22,9 @@ pub enum Least {
     },
 }
 
-const CHECK: u8 = 84;
+const CHECK: u8 = b'T';
 
-const ADDS: u8 = 73;
+const ADDS: u8 = b'I';
 
 const EMPTY: u64 = 0x8000_0000_0000_0000;
 
@@ -73,40 +69,33 @@ fn mask(rows: [[u64; 3]; 6], flags: &[u8]) -> [[u64; 3]; 6]
 
 // Takes the arc's touched values through the entry whose row stands at a place: its refusal, or 0.
 pub fn run_entry<'a>(
-    start: &[u8],
-    file: &'a [u8],
-    incoming: &'a [u8],
-    side: bool,
-    plan: Plan,
-    places: &[u32; 4096],
+    asked: Asked<'a>,
     entries: &[u64],
     row: usize,
-    whom: Whom,
-    celltype: &[u8],
     arc: usize,
     flags: &[u8],
     state: &mut [u8],
 ) -> u8
-    requires { (InstanceSearch start.now plan.instances 12 places.now) × (ar_next start.now arc ≤ length start.now) × (InSheet start.now whom)
+    requires { (InstanceSearch asked.searched.start.now asked.searched.plan.instances 12 asked.searched.places.now)
+        × (ar_next asked.searched.start.now arc ≤ length asked.searched.start.now) × (InSheet asked.searched.start.now asked.whom)
         × (row + 28 ≤ length entries.now) × (length flags.now ≡ 18) × (length state.old ≡ 144) }
-    ensures { (result ≡ entry_number start.now (pick side incoming.now file.now) plan.slash plan.instances
-        entries.now row whom celltype.now arc flags.now state.old)
-        × (state.new ≡ entry_state start.now (pick side incoming.now file.now) plan.slash plan.instances
-        entries.now row whom celltype.now arc flags.now state.old) }
+    ensures { let a = asked.entry in
+        (result ≡ entry_number a.searched.start.now a.text.now a.searched.plan.slash a.searched.plan.instances
+        entries.now row a.whom a.celltype.now arc flags.now state.old)
+        × (state.new ≡ entry_state a.searched.start.now a.text.now a.searched.plan.slash a.searched.plan.instances
+        entries.now row a.whom a.celltype.now arc flags.now state.old) }
 {
     let entry = views::head_at(entries, row);
-    if !meant::is_meant(
-        start, file, incoming, side, plan, places, entry, whom, celltype, arc,
-    ) {
+    if !meant::is_meant(asked, entry, arc) {
         return 0;
     }
     let rows = mask(
         amounts::expand(entries, row + 10, entry.group == CHECK, entries[row + 9]),
         flags,
     );
-    let number = amounts::arc_refusal(state, 0, rows, entry.group == ADDS);
-    if number == 0 {
+    let refusal = amounts::arc_refusal(state, 0, rows, entry.group == ADDS);
+    if refusal.is_none() {
         amounts::write_arc(state, 0, rows, entry.group == ADDS);
     }
-    number
+    refusal.unwrap_or(0)
 }

@@ -8,17 +8,13 @@ ghost use Rattle.bytype.specs.Chains.{Noted, Chained};
 ghost use Rattle.byend.specs.Ends.{below_bucket, end_bucket, end_place, EndsIndexed, EndsReady};
 ghost use Rattle.byend.specs.Ports.{is_plain, plain_from, open_end};
 
+use sheetrecords::Arc;
+
 // For how many arcs the table has room: more than a sheet has.
 const MOST: usize = 131071;
 
-// Where it stands that the table is an index.
+// Where it stands that the table is an index: `index_ends` promises it (EndsReady) of the table alone.
 const READY: usize = 135167;
-
-fn widen(number: u32) -> usize
-    ensures { result ≡ number }
-{
-    number as usize
-}
 
 // The bucket of a name without its last component.
 pub fn below_bucket(name: &[u8]) -> usize
@@ -29,44 +25,31 @@ pub fn below_bucket(name: &[u8]) -> usize
         return 0;
     }
     let end = start - 1;
-    bytype::bucket_of(&name[0..end])
+    bytype::bucket_of(&name[..end])
 }
 
+#[tactic(auto, unfolding(crate::specs::Ports::is_plain))]
 fn is_plain(byte: u8) -> bool
     ensures { result ≡ is_plain byte }
 {
-    if byte == 46 {
-        return false;
-    }
-    if byte == 47 {
-        return false;
-    }
-    byte != 92
+    byte != b'.' && byte != b'/' && byte != b'\\'
 }
 
 // Whether a written port has no divider and no backslash.
 pub fn plain_port(port: &[u8]) -> bool
     ensures { result ≡ plain_from port.now }
 {
-    let mut k = 0;
-    while k < port.len() {
-        if !is_plain(port[k]) {
-            return false;
-        }
-        k += 1;
-    }
-    true
+    port.iter().all(|byte| is_plain(*byte))
 }
 
 // Whether a path's last byte is no backslash.
 pub fn open_end(path: &[u8]) -> bool
     ensures { result ≡ open_end path.now }
 {
-    let n = path.len();
-    if n == 0 {
-        return true;
+    match path.last() {
+        Some(byte) => *byte != b'\\',
+        None => true,
     }
-    path[n - 1] != 92
 }
 
 // The place of every arc, for now where the number of the next one in its bucket is to stand.
@@ -75,12 +58,10 @@ fn note_places(sheet: &[u8], count: usize, first: usize, ends: &mut [u32; 135168
     ensures { (length ends.new ≡ 135168) × (Noted end_place (λ k. place sheet.now k first) count ends.new)
         × ((h : ℕ) → h < 4096 → get_or ends.new h 0 ≡ get_or ends.old h 0) }
 {
-    let mut k = 0;
     let mut here = first;
-    while k < count {
+    for k in 0..count {
         ends[4096 + k] = here as u32;
-        here = sheetrecords::next_arc(sheet, here);
-        k += 1;
+        here = Arc { sheet, place: here }.next();
     }
 }
 
@@ -90,11 +71,9 @@ fn chain(sheet: &[u8], count: usize, first: usize, ends: &mut [u32; 135168])
         × (Chained end_place (end_bucket sheet.now first) count count ends.old) × Noted end_place (λ k. place sheet.now k first) count ends.old }
     ensures { (length ends.new ≡ 135168) × EndsIndexed sheet.now count first ends.new }
 {
-    let mut k = count;
-    while 0 < k {
-        k -= 1;
-        let here = widen(ends[4096 + k]);
-        let bucket = below_bucket(sheetrecords::second_end(sheet, here));
+    for k in (0..count).rev() {
+        let here = ends[4096 + k] as usize;
+        let bucket = below_bucket(Arc { sheet, place: here }.second_end());
         ends[4096 + k] = ends[bucket];
         ends[bucket] = k as u32;
     }

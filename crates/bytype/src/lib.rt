@@ -6,6 +6,8 @@ ghost use Rattle.sheet.specs.Find.{InsGood};
 ghost use Rattle.bytype.specs.Chains.{Noted, head_place, Chained};
 ghost use Rattle.bytype.specs.ByType.{bucket_of, type_bucket, spot_of, link_place, spot_place, Indexed, IndexReady};
 
+use sheetrecords::Instance;
+
 // How many buckets there are. Their heads stand first in the table.
 const BUCKETS: usize = 4096;
 
@@ -15,27 +17,13 @@ const INSTANCES: usize = 12;
 // For how many instances the table has room.
 const MOST: usize = 65536;
 
-fn wide(byte: u8) -> usize
-    ensures { result ≡ byte }
-{
-    byte as usize
-}
-
-fn widen(number: u32) -> usize
-    ensures { result ≡ number }
-{
-    number as usize
-}
-
 // The bucket of a text.
 pub fn bucket_of(text: &[u8]) -> usize
     ensures { (result ≡ bucket_of text.now) × (result < 4096) }
 {
     let mut bucket = 0;
-    let mut k = 0;
-    while k < text.len() {
-        bucket = (bucket * 31 + wide(text[k])) % BUCKETS;
-        k += 1;
+    for byte in text {
+        bucket = (bucket * 31 + usize::from(*byte)) % BUCKETS;
     }
     bucket
 }
@@ -45,11 +33,7 @@ pub fn clear_heads(count: usize, index: &mut [u32; 135168])
     requires { (count ≤ 131071) × (length index.old ≡ 135168) }
     ensures { (length index.new ≡ 135168) × Noted head_place (λ h. count) 4096 index.new }
 {
-    let mut k = 0;
-    while k < BUCKETS {
-        index[k] = count as u32;
-        k += 1;
-    }
+    index[..BUCKETS].fill(count as u32);
 }
 
 // The place of every instance.
@@ -58,12 +42,10 @@ fn note_spots(sheet: &[u8], count: usize, index: &mut [u32; 135168])
     ensures { (length index.new ≡ 135168) × (Noted spot_place (spot_of sheet.now) count index.new)
         × ((h : ℕ) → h < 4096 → get_or index.new h 0 ≡ get_or index.old h 0) }
 {
-    let mut k = 0;
     let mut here = INSTANCES;
-    while k < count {
+    for k in 0..count {
         index[4097 + 2 * k] = here as u32;
-        here = sheetrecords::next_instance(sheet, here);
-        k += 1;
+        here = Instance { sheet, place: here }.next();
     }
 }
 
@@ -73,11 +55,9 @@ fn chain(sheet: &[u8], count: usize, index: &mut [u32; 135168])
         × (Chained link_place (type_bucket sheet.now) count count index.old) × Noted spot_place (spot_of sheet.now) count index.old }
     ensures { Indexed sheet.now count index.new }
 {
-    let mut k = count;
-    while 0 < k {
-        k -= 1;
-        let here = widen(index[4097 + 2 * k]);
-        let bucket = bucket_of(sheetrecords::instance_type(sheet, here));
+    for k in (0..count).rev() {
+        let here = index[4097 + 2 * k] as usize;
+        let bucket = bucket_of(Instance { sheet, place: here }.type_name());
         index[4096 + 2 * k] = index[bucket];
         index[bucket] = k as u32;
     }

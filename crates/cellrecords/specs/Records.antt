@@ -1,6 +1,6 @@
 -- The records that the rows of a table of cells stand for (crate tables has the layout, crate views a row).
 -- Assumes nothing.
-use Rattle.std.specs.Prelude.{List, [], ◌∷◌, ◌++◌, ℕ, zero, suc, ◌+◌, ◌*◌}
+use Rattle.std.specs.Prelude.{List, [], ◌∷◌, ◌++◌, ℕ, zero, suc, ◌*◌}
 use Rattle.grammar.specs.declared.Cell.{Cell}
 use Rattle.views.specs.Views.{cell_at}
 

@@ -42,9 +42,7 @@ pub fn fill_records(records: &mut [Cell], table: &[u64], n: usize)
     requires { (n ≤ length records.old) × (7 * n ≤ length table.now) }
     ensures { records.new ≡ records_of table.now n ++ drop n records.old }
 {
-    let mut k = 0;
-    while k < n {
+    for k in 0..n {
         records[k] = row_at(table, k);
-        k += 1;
     }
 }

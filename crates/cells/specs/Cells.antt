@@ -1,21 +1,19 @@
 -- Cells: contracts and rules of the readers that go through a cell's sections, and fill the tables.
 -- Assumes nothing.
-use Rattle.std.specs.Prelude.{◌≡◌, refl, Bool, true, false, List, [], ◌∷◌, ◌++◌, ℕ, ◌+◌, ◌-◌, ◌*◌, ◌≤◌, ◌<◌, length}
+use Rattle.std.specs.Prelude.{◌≡◌, refl, Bool, true, false, List, [], ◌∷◌, ◌++◌, ℕ, ◌+◌, ◌-◌, ◌*◌, ◌≤◌, ◌<◌, length, Result, Ok, Err}
 use Rattle.std.proofs.Common.{ap, ◌∙◌, sym, append_assoc, arith}
 use Rattle.classes.specs.Choice.{pick}
+use Rattle.tokenforms.specs.declared.Refusal.{Refusal}
 use Rattle.grammar.specs.Ll.{non}
 use Rattle.grammar.specs.Machine.{bad}
 use Rattle.grammar.specs.declared.Value.{Value}
 use Rattle.grammar.specs.declared.Entry.{Entry}
-use Rattle.grammar.specs.declared.Status.TheVariants as status
 use Rattle.grammar.specs.declared.Within.{Within}
 use Rattle.grammar.specs.declared.Within.TheVariants as within
 use Rattle.grammar.specs.declared.Turn.TheVariants as turn
 use Rattle.grammar.specs.declared.ReadBody.{ReadBody}
-use Rattle.grammar.specs.declared.ReadBody.TheVariants as body
-use Rattle.tokenforms.specs.declared.Token.TheVariants.{Got, Stop}
+use Rattle.tokenforms.specs.Tokens.{Got, Refused}
 use Rattle.tokenforms.specs.Tokens.{token_at}
-use Rattle.cells.specs.declared.Sight.{Sight}
 use Rattle.grammar.specs.Grammar.{delay, check, specs}
 use Rattle.grammar.specs.Meaning.{Log, Item, entered, finished, no_head, nothing}
 use Rattle.grammar.specs.Reading.{reading}
@@ -35,12 +33,6 @@ after_more [] i l = refl
 after_more (x ∷ is) i l =
     ap (λ (z : List Item). record { texts = l.texts; cells = l.cells; items = z; begun = l.begun; head = no_head; values = []; value = nothing })
     (append_assoc l.items (x ∷ is) (i ∷ []))
-
--- what stands at a place, seen: a refusal, or a token, long or not
-abbrev pub Sighted : List ℕ → ℕ → Sight → Type 0
-Sighted s p r =
-    (r.stopped ≡ true → token_at s p ≡ Stop r.kind r.start)
-    × (r.stopped ≡ false → (l : Bool) × (token_at s p ≡ Got r.kind r.start r.end l))
 
 -- the letter of the entries of a group, or 0 where the entries are checks
 abbrev pub group_of : Within → ℕ
@@ -84,29 +76,29 @@ BodyNot s p0 d unit room n q =
 abbrev pub filled : Bool → List ℕ → ℕ → List Item → List ℕ
 filled fill t row is = pick fill (put t (28 * row) (entry_rows is)) t
 
-abbrev pub BodyRead : List ℕ → ℕ → Bool → ℕ → ℕ → Bool → ℕ → List ℕ → List ℕ → ReadBody → Type 0
-BodyRead s p d unit room fill row t t' (body.Done e n) =
-    (is : List Item) × (length is ≡ n) × BodyDone s p d unit room e n is × (n ≤ room) × (p < e) × (e ≤ length s) × (t' ≡ filled fill t row is)
-BodyRead s p d unit room fill row t t' (body.Refused n q) = BodyNot s p d unit room n q × (fill ≡ false → t' ≡ t)
+abbrev pub BodyRead : List ℕ → ℕ → Bool → ℕ → ℕ → Bool → ℕ → List ℕ → List ℕ → Result ReadBody Refusal → Type 0
+BodyRead s p d unit room fill row t t' (Ok body) =
+    (is : List Item) × (length is ≡ body.count) × BodyDone s p d unit room body.end body.count is × (body.count ≤ room) × (p < body.end) × (body.end ≤ length s) × (t' ≡ filled fill t row is)
+BodyRead s p d unit room fill row t t' (Err why) = BodyNot s p d unit room why.number why.place × (fill ≡ false → t' ≡ t)
 
 pub along-start : (s : List ℕ) (p : ℕ) (d : Bool) (unit room : ℕ) → Along s p d unit room p 0 within.Cell true []
 along-start s p d unit room = λ ss cr l. let z : room - 0 ≡ room = omega arith in rw z
 
 module _ (s : List ℕ) (p0 : ℕ) (d : Bool) (unit room p n : ℕ) (w : Within) (f : Bool) (is : List Item) (a : Along s p0 d unit room p n w f is) where
-  pub along_on : (w' : Within) (f' : Bool) (q : ℕ) → Turned s p w f d (turn.On w' f' q) → Along s p0 d unit room q n w' f' is
+  pub along_on : (w' : Within) (f' : Bool) (q : ℕ) → Turned s p w f d (Ok (turn.On w' f' q)) → Along s p0 d unit room q n w' f' is
   along_on w' f' q u = λ ss cr l. a ss cr l ∙ u.0 ss unit cr (room - n) (after is l)
 
-  pub along-done : (q : ℕ) → Turned s p w f d (turn.Done q) → BodyDone s p0 d unit room q n is
+  pub along-done : (q : ℕ) → Turned s p w f d (Ok (turn.Done q)) → BodyDone s p0 d unit room q n is
   along-done q u = λ ss cr l. a ss cr l ∙ u.0 ss unit cr (room - n) (after is l)
 
-  pub along-not : (m q : ℕ) → Turned s p w f d (turn.Refused m q) → BodyNot s p0 d unit room m q
+  pub along-not : (m q : ℕ) → Turned s p w f d (Refused m q) → BodyNot s p0 d unit room m q
   along-not m q u = λ ss cr l. a ss cr l ∙ u.0 ss unit cr (room - n) (after is l)
 
-  module _ (q : ℕ) (u : Turned s p w f d (turn.Entry q)) where
-    pub along_bad : (m x : ℕ) (h : Entry) (vs : List Value) → Listable s q (item_place w d) d unit (room - n) (status.Refused m x) h vs → BodyNot s p0 d unit room m x
+  module _ (q : ℕ) (u : Turned s p w f d (Ok (turn.Entry q))) where
+    pub along_bad : (m x : ℕ) (h : Entry) (vs : List Value) → Listable s q (item_place w d) d unit (room - n) (Refused m x) h vs → BodyNot s p0 d unit room m x
     along_bad m x h vs e = λ ss cr l. a ss cr l ∙ u.0 ss unit cr (room - n) (after is l) ∙ e (below w true d ++ ss) cr (after is l)
 
-    pub along-entry : (x : ℕ) (h : Entry) (vs : List Value) → Listable s q (item_place w d) d unit (room - n) (status.Done x) h vs →
+    pub along-entry : (x : ℕ) (h : Entry) (vs : List Value) → Listable s q (item_place w d) d unit (room - n) (Ok x) h vs →
         Along s p0 d unit room x (n + 1) w true (is ++ item h vs ∷ [])
     along-entry x h vs e = λ ss cr l.
         let z : room - n - 1 ≡ room - (n + 1) = omega arith in

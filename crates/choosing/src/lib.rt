@@ -7,7 +7,7 @@ ghost use Rattle.meant.specs.Find.{ArcsGood};
 ghost use Rattle.marking.specs.Choosing.{Chose};
 
 use meant::entryarcs::Plan;
-use meant::sheetrecords;
+use meant::sheetrecords::Arc;
 
 // What was chosen: how many arcs, and the number and the place of the first one behind.
 #[derive(Clone, Copy)]
@@ -34,9 +34,8 @@ pub fn choose(
         result.place arcs.new }
 {
     let mut count = 0;
-    let mut next = from;
     let mut here = arc;
-    while next < plan.arcs {
+    for next in from..plan.arcs {
         if count == SEATS {
             return Chosen {
                 count,
@@ -48,12 +47,15 @@ pub fn choose(
             arcs[count] = here;
             count += 1;
         }
-        here = sheetrecords::next_arc(start, here);
-        next += 1;
+        here = Arc {
+            sheet: start,
+            place: here,
+        }
+        .next();
     }
     Chosen {
         count,
-        next,
+        next: plan.arcs,
         place: here,
     }
 }

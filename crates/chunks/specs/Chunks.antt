@@ -1,9 +1,10 @@
 -- The arcs of a sheet that may have a touched slot, a part of them at a time: the least fault of all, and what is written without one.
 -- Assumes nothing.
 use Prim.Native.Nat.{ℕ, zero, suc, ◌+◌, ◌-◌, ◌<◌, ◌≤◌}
-use Rattle.std.specs.Prelude.{◌≡◌, Bool, List, [], ◌∷◌, ◌++◌, get_or}
+use Rattle.std.specs.Prelude.{◌≡◌, Bool, List, [], ◌∷◌, ◌++◌, get_or, take}
+use Rattle.std.proofs.lemmas.List.{get_or-take}
 use Rattle.std.proofs.Math.Path.{refl}
-use Rattle.std.proofs.Common.{sym, ◌∙◌, add-zero}
+use Rattle.std.proofs.Common.{sym, ◌∙◌, add-zero, length-take-le}
 use Rattle.std.proofs.Math.Bool.{true, false}
 use Rattle.std.proofs.Math.Option.{Option, some}
 use native.Mathlib.Omega.{arith}
@@ -191,6 +192,15 @@ module _ (b : List ℕ) (n m f : ℕ) (file incoming : List ℕ) (slash : Bool) 
             absurd (none≢some (sym (none-at number below) ∙ y.0))
 
 -- 3. By what the functions say of a part
+
+-- the arcs that were chosen, as the part of the table that they fill
+pub part_long : (count : ℕ) (arcs : List ℕ) → count ≤ length arcs → length (take (count - 0) arcs) ≡ count
+part_long count arcs fit = length-take-le (count - 0) arcs (omega arith) ∙ omega arith
+
+pub part_chosen : (b : List ℕ) (m f : ℕ) (bits : List ℕ) (from count next at : ℕ) (arcs : List ℕ) → Chose b m f bits from count next at arcs
+    → Chose b m f bits from count next at (take (count - 0) arcs)
+part_chosen b m f bits from count next at arcs c =
+    (c.0, c.1, c.2, c.3, c.4, c.5, c.6, λ i h. get_or-take (count - 0) arcs i 0 (omega arith) ∙ c.7 i h)
 
 module _ (b : List ℕ) (n m f : ℕ) (file incoming : List ℕ) (slash : Bool) (cells entries cells2 entries2 : List ℕ) (swap : Swap)
     (leaver : Whom) (type : List ℕ) (newcomer : Whom) (type2 : List ℕ) where

@@ -31,7 +31,7 @@ pub fn class_of(byte: u8) -> u8
     }
 }
 
-// From low to high, both included.
+// From low to high, both included. (docs/PROMISES.md names it and the two questions below: they stand beside the library's `is_ascii_..`.)
 pub fn is_within(low: u8, high: u8, byte: u8) -> bool
     ensures { result ≡ within low high byte }
 {
@@ -50,7 +50,8 @@ pub fn is_digit(byte: u8) -> bool
     is_within(b'0', b'9', byte)
 }
 
-// Plain in a word: mostly letters, then digits and points.
+// Plain in a word: mostly letters, then digits and points. (One `match` of all these is slower: docs/notes/ask-4.md.)
+#[tactic(auto, using(crate::proofs::Asked::plain_asked))]
 pub fn is_plain(byte: u8) -> bool
     ensures { result ≡ eqb (class_of byte) 7 }
 {
@@ -67,15 +68,14 @@ pub fn is_plain(byte: u8) -> bool
     byte == b'$' || byte == b'+'
 }
 
+#[tactic(auto, using(crate::proofs::Asked::white_asked))]
 pub fn is_white(byte: u8) -> bool
     ensures { result ≡ eqb (class_of byte) 1 }
 {
-    if byte == b' ' {
-        return true;
-    }
-    is_within(b'\t', b'\n', byte) || byte == b'\r'
+    byte == b' ' || is_within(b'\t', b'\n', byte) || byte == b'\r'
 }
 
+#[tactic(auto, using(crate::specs::ClassLaws::white_rule))]
 pub fn is_legal(byte: u8) -> bool
     ensures { result ≡ is_legal byte }
 {
@@ -83,6 +83,8 @@ pub fn is_legal(byte: u8) -> bool
 }
 
 // The class of a mark: ( ) : * . 0 for any other byte. Most marks are brackets, whose two classes follow each other as they do.
+// (A `match` is slower: docs/notes/ask-4.md.)
+#[tactic(auto, using(crate::proofs::Asked::mark_asked))]
 pub fn mark_of(byte: u8) -> u8
     ensures { result ≡ mark_of byte }
 {

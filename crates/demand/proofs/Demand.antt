@@ -39,8 +39,7 @@ use Rattle.splice.proofs.Carried.{incoming, lit-taken}
 use Rattle.splice.proofs.Parts.{old, old_keeps, old_stands, entries_at, behind_token, from1, to1}
 use Rattle.splice.proofs.Splice.{Spliced, splice}
 use Rattle.wire.specs.Wire.{Bytes}
-use Rattle.sheetparts.specs.Form.{check_of}
-use Rattle.sheetparts.specs.declared.SheetCheck.TheVariants.{Good}
+use Rattle.sheetparts.specs.Form.{Good, check_of}
 use Rattle.sheetlaws.specs.Sheet.{Sheet, decode}
 use Rattle.history.specs.Events.{Answer, sheet, refused}
 use Rattle.history.specs.Sheet.{Slot, Values, Cell, Cut, cut, behind, swapped}

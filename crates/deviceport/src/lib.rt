@@ -6,7 +6,8 @@ ghost use Rattle.sheetlaws.specs.Sheet.{in_end, place};
 ghost use Rattle.entryarcs.specs.Find.{ArcSearch};
 ghost use Rattle.deviceport.specs.ByPath.{by_path};
 
-use entryarcs::sheetrecords;
+use entryarcs::Start;
+use entryarcs::sheetrecords::{Arc, Instance};
 use grammar::Entry;
 
 const DEVICE: u8 = 4;
@@ -14,30 +15,20 @@ const DEVICE: u8 = 4;
 // Where it stands that the table is an index.
 const READY: usize = 135167;
 
-pub fn widen(number: u32) -> usize
-    ensures { result ≡ number }
-{
-    number as usize
-}
-
 // The place of the arc with a number: from the landmark before it.
-pub fn arc_place(
-    sheet: &[u8],
-    count: usize,
-    first: usize,
-    marks: &[u32; 4096],
-    number: usize,
-) -> usize
-    requires { (ArcSearch sheet.now count first marks.now) × (number < count) }
-    ensures { result ≡ place sheet.now number first }
+pub fn arc_place(start: Start, number: usize) -> usize
+    requires { (ArcSearch start.sheet.now start.plan.arcs start.plan.first start.marks.now) × (number < start.plan.arcs) }
+    ensures { result ≡ place start.entry.sheet.now number start.entry.plan.first }
 {
-    let stride = count / 4096 + 1;
+    let stride = start.plan.arcs / 4096 + 1;
     let mark = number / stride;
-    let mut k = mark * stride;
-    let mut here = widen(marks[mark]);
-    while k < number {
-        here = sheetrecords::next_arc(sheet, here);
-        k += 1;
+    let mut here = start.marks[mark] as usize;
+    for k in mark * stride..number {
+        here = Arc {
+            sheet: start.sheet,
+            place: here,
+        }
+        .next();
     }
     here
 }
@@ -50,7 +41,12 @@ fn by_path(start: &[u8], text: &[u8], entry: Entry, instance: usize) -> bool
     if entry.to1 == 0 {
         return true;
     }
-    if byend::open_end(sheetrecords::instance_path(start, instance)) {
+    if byend::open_end(Instance {
+        sheet: start,
+        place: instance,
+    }
+    .path())
+    {
         return byend::plain_port(names::part_of(text, entry.from1, entry.to1));
     }
     false
@@ -68,11 +64,5 @@ pub fn is_chained(
     ensures { result ≡ true → (entry.kind ≡ 4) × (get_or ends.now 135167 0 ≡ 1)
         × (by_path start.now text.now entry instance ≡ true) }
 {
-    if entry.kind != DEVICE {
-        return false;
-    }
-    if ends[READY] != 1 {
-        return false;
-    }
-    by_path(start, text, entry, instance)
+    entry.kind == DEVICE && ends[READY] == 1 && by_path(start, text, entry, instance)
 }

@@ -1,82 +1,53 @@
 // The readers of entries: recursive descent over the tokens of a text. Each contract is an equation between readings
-// (rules/specs/Promises.antt). Every reader takes the text and the place from which to read.
+// (rules/specs/Promises.antt). Every reader takes the text and the place from which to read. A struct of
+// slash and unit would be no plainer: the readers of ends take the one and those of values the other.
 #![tactic(auto)]
 
-ghost use Rattle.std.specs.Prelude.{◌≡◌, true, false, [], ◌∷◌, ◌-◌, ◌≤◌, ◌<◌, length, take};
+ghost use Rattle.std.specs.Prelude.{◌≡◌, false, [], ◌∷◌, ◌≤◌, length};
 ghost use Rattle.grammar.specs.Ll.{non};
-ghost use Rattle.grammar.specs.Grammar.{second, iopath_tail, interconnect_tail, port_tail, two_ends, device, delay, check, end?};
-ghost use Rattle.grammar.specs.Meaning.{wrongly};
-ghost use Rattle.rules.specs.Promises.{ValuesFrom, Entered, Listable, with_values};
+ghost use Rattle.grammar.specs.Grammar.{iopath_tail, interconnect_tail, port_tail, two_ends, device, delay, check, end?};
+ghost use Rattle.grammar.specs.Meaning.{head_of};
+ghost use Rattle.rules.specs.Promises.{ValuesFrom, Entered, Listable, list_end, list_of, entry_end, entry_of, values_of};
 ghost use Rattle.rules.specs.Entries.{check_values, SecondValue, delay_tail, check_tail};
-ghost use Rattle.classes.specs.Choice.{pick};
+ghost use Rattle.entries.specs.Started.{start};
 
-use grammar::{
-    Amount, Entry, Mark, ReadEnd, ReadEntry, ReadName, ReadValue, Status, Value, Values,
-};
+use entryends::{read_end, read_port};
+use grammar::{Entry, ReadEntry, Value, Values};
 use kinds::{has_second, is_signed, rows_of};
 use nametokens::{name_fault, name_token};
-use tokenforms::Token;
+use tokenforms::{Refusal, Token};
 use tokens::token_from;
+use values::{expect, open_value, open_values, read_values, wrong_at};
 use words::key_of;
 
-// ---- what stands at a place
+// An entry's keyword: the entry's kind and group, and where the word stands.
+#[derive(Clone, Copy)]
+struct Started {
+    kind: u8,
+    group: u8,
+    place: usize,
+}
 
-// ---- values
-
-// ---- ends
-
-// ---- entries, behind their keywords
-
-// No entry, and why.
-fn no_entry(number: u8, place: usize) -> ReadEntry
-    ensures { (result.status ≡ Status.Refused number place) × (result.count ≤ 6) }
-{
-    ReadEntry {
-        status: Status::Refused {
-            number: number,
-            place: place,
-        },
-        entry: Entry {
-            kind: 0,
-            group: 0,
-            place: 0,
+impl Started {
+    // The entry, with no end yet.
+    fn bare(self) -> Entry
+        ensures { result ≡ head_of self.kind self.group self.place }
+    {
+        Entry {
+            kind: self.kind,
+            group: self.group,
+            place: self.place,
             edge1: 0,
             from1: 0,
             to1: 0,
             edge2: 0,
             from2: 0,
             to2: 0,
-        },
-        list: [Value {
-            min: Amount::Absent,
-            typ: Amount::Absent,
-            max: Amount::Absent,
-        }; 6],
-        count: 0,
+        }
     }
 }
 
-// No entry, since this token right behind an opening bracket begins none.
-fn wrong_entry(word: &[u8], kind: u8, start: usize) -> ReadEntry
-    ensures { (result.status ≡ Status.Refused (wrongly true kind word.now) start) × (result.count ≤ 6) }
-{
-    let wrong = values::wrong_at(word, kind, true);
-    no_entry(wrong, start)
-}
-
-fn with_values(entry: Entry, values: Values) -> ReadEntry
-    ensures { result ≡ with_values entry values }
-{
-    let status = values.status;
-    let list = values.list;
-    let count = values.count;
-    ReadEntry {
-        status: status,
-        entry: entry,
-        list: list,
-        count: count,
-    }
-}
+// ---- entries, behind their keywords
 
 // IOPATH.
 fn read_iopath(
@@ -84,45 +55,24 @@ fn read_iopath(
     from: usize,
     slash: bool,
     unit: u8,
-    group: u8,
-    place: usize,
-) -> ReadEntry
+    started: Started,
+) -> Result<ReadEntry, Refusal>
     requires { from ≤ length text.now }
-    ensures { Entered text.now from (iopath_tail slash) slash unit 1 group place result.status result.entry (take result.count result.list) × (result.count ≤ 6) }
+    ensures { Entered text.now from (iopath_tail slash) slash unit started.kind started.group started.place
+        (entry_end result) (entry_of result) (values_of result) }
 {
-    let a = entryends::read_end(text, from, false, slash);
-    match a {
-        ReadEnd::Refused { number, place: at } => no_entry(number, at),
-        ReadEnd::End {
-            edge,
-            from: from1,
-            to: to1,
-            end,
-        } => {
-            let b = entryends::read_port(text, end, slash);
-            match b {
-                ReadName::Refused { number, place: at } => no_entry(number, at),
-                ReadName::Name {
-                    from: from2,
-                    to: to2,
-                } => {
-                    let values = values::open_values(text, to2, unit);
-                    let entry = Entry {
-                        kind: 1,
-                        group: group,
-                        place: place,
-                        edge1: edge,
-                        from1: from1,
-                        to1: to1,
-                        edge2: 0,
-                        from2: from2,
-                        to2: to2,
-                    };
-                    with_values(entry, values)
-                }
-            }
-        }
-    }
+    let input = read_end(text, from, false, slash)?;
+    let output = read_port(text, input.end, slash)?;
+    let values = open_values(text, output.to, unit)?;
+    let entry = Entry {
+        edge1: input.edge,
+        from1: input.from,
+        to1: input.to,
+        from2: output.from,
+        to2: output.to,
+        ..started.bare()
+    };
+    Ok(ReadEntry { entry, values })
 }
 
 // INTERCONNECT.
@@ -131,43 +81,23 @@ fn read_interconnect(
     from: usize,
     slash: bool,
     unit: u8,
-    group: u8,
-    place: usize,
-) -> ReadEntry
+    started: Started,
+) -> Result<ReadEntry, Refusal>
     requires { from ≤ length text.now }
-    ensures { Entered text.now from (interconnect_tail slash) slash unit 2 group place result.status result.entry (take result.count result.list) × (result.count ≤ 6) }
+    ensures { Entered text.now from (interconnect_tail slash) slash unit started.kind started.group started.place
+        (entry_end result) (entry_of result) (values_of result) }
 {
-    let a = entryends::read_port(text, from, slash);
-    match a {
-        ReadName::Refused { number, place: at } => no_entry(number, at),
-        ReadName::Name {
-            from: from1,
-            to: to1,
-        } => {
-            let b = entryends::read_port(text, to1, slash);
-            match b {
-                ReadName::Refused { number, place: at } => no_entry(number, at),
-                ReadName::Name {
-                    from: from2,
-                    to: to2,
-                } => {
-                    let values = values::open_values(text, to2, unit);
-                    let entry = Entry {
-                        kind: 2,
-                        group: group,
-                        place: place,
-                        edge1: 0,
-                        from1: from1,
-                        to1: to1,
-                        edge2: 0,
-                        from2: from2,
-                        to2: to2,
-                    };
-                    with_values(entry, values)
-                }
-            }
-        }
-    }
+    let source = read_port(text, from, slash)?;
+    let load = read_port(text, source.to, slash)?;
+    let values = open_values(text, load.to, unit)?;
+    let entry = Entry {
+        from1: source.from,
+        to1: source.to,
+        from2: load.from,
+        to2: load.to,
+        ..started.bare()
+    };
+    Ok(ReadEntry { entry, values })
 }
 
 // PORT.
@@ -176,34 +106,20 @@ fn read_port_delay(
     from: usize,
     slash: bool,
     unit: u8,
-    group: u8,
-    place: usize,
-) -> ReadEntry
+    started: Started,
+) -> Result<ReadEntry, Refusal>
     requires { from ≤ length text.now }
-    ensures { Entered text.now from (port_tail slash) slash unit 3 group place result.status result.entry (take result.count result.list) × (result.count ≤ 6) }
+    ensures { Entered text.now from (port_tail slash) slash unit started.kind started.group started.place
+        (entry_end result) (entry_of result) (values_of result) }
 {
-    let a = entryends::read_port(text, from, slash);
-    match a {
-        ReadName::Refused { number, place: at } => no_entry(number, at),
-        ReadName::Name {
-            from: from1,
-            to: to1,
-        } => {
-            let values = values::open_values(text, to1, unit);
-            let entry = Entry {
-                kind: 3,
-                group: group,
-                place: place,
-                edge1: 0,
-                from1: from1,
-                to1: to1,
-                edge2: 0,
-                from2: 0,
-                to2: 0,
-            };
-            with_values(entry, values)
-        }
-    }
+    let port = read_port(text, from, slash)?;
+    let values = open_values(text, port.to, unit)?;
+    let entry = Entry {
+        from1: port.from,
+        to1: port.to,
+        ..started.bare()
+    };
+    Ok(ReadEntry { entry, values })
 }
 
 // DEVICE, with a port or without.
@@ -212,121 +128,74 @@ fn read_device(
     from: usize,
     slash: bool,
     unit: u8,
-    group: u8,
-    place: usize,
-) -> ReadEntry
+    started: Started,
+) -> Result<ReadEntry, Refusal>
     requires { from ≤ length text.now }
-    ensures { Entered text.now from (non (device slash) ∷ []) slash unit 4 group place result.status result.entry (take result.count result.list) × (result.count ≤ 6) }
+    ensures { Entered text.now from (non (device slash) ∷ []) slash unit started.kind started.group started.place
+        (entry_end result) (entry_of result) (values_of result) }
 {
-    let shaped = name_token(text, from, slash);
-    let t = shaped.token;
-    let state = shaped.state;
-    match t {
-        Token::Stop { number, place: at } => no_entry(number, at),
-        Token::Got {
-            kind,
-            start,
-            end,
-            long,
-        } => {
-            if kind == 2 {
-                let values = values::read_values(text, end, unit);
-                let bare = Entry {
-                    kind: 4,
-                    group: group,
-                    place: place,
-                    edge1: 0,
-                    from1: 0,
-                    to1: 0,
-                    edge2: 0,
-                    from2: 0,
-                    to2: 0,
-                };
-                return with_values(bare, values);
-            }
-            let n = name_fault(true, state, long);
-            if n == 0 {
-                let values = values::open_values(text, end, unit);
-                let entry = Entry {
-                    kind: 4,
-                    group: group,
-                    place: place,
-                    edge1: 0,
-                    from1: start,
-                    to1: end,
-                    edge2: 0,
-                    from2: 0,
-                    to2: 0,
-                };
-                return with_values(entry, values);
-            }
-            no_entry(n, start)
-        }
+    let shaped = name_token(text, from, slash)?;
+    let token = shaped.token;
+    if token.kind == 2 {
+        let values = read_values(text, token.end, unit)?;
+        return Ok(ReadEntry {
+            entry: started.bare(),
+            values,
+        });
     }
+    name_fault(true, shaped)?;
+    let values = open_values(text, token.end, unit)?;
+    let entry = Entry {
+        from1: token.start,
+        to1: token.end,
+        ..started.bare()
+    };
+    Ok(ReadEntry { entry, values })
 }
 
-// Values of a check: v, and second behind it where there are two.
-fn these_values(v: Value, second: Value, two: bool, end: usize) -> Values
-    ensures { (result.status ≡ Status.Done end) × (take result.count result.list ≡ pick two (v ∷ second ∷ []) (v ∷ [])) × (result.count ≤ 6) }
-{
-    let mut list = [Value {
-        min: Amount::Absent,
-        typ: Amount::Absent,
-        max: Amount::Absent,
-    }; 6];
-    list[0] = v;
-    if two {
-        list[1] = second;
-        return Values {
-            status: Status::Done(end),
-            list: list,
-            count: 2,
-        };
-    }
-    Values {
-        status: Status::Done(end),
-        list: list,
-        count: 1,
-    }
-}
-
-// The second of two values of a check, and its closing bracket; v is the first.
-fn second_value(text: &[u8], from: usize, signed: bool, unit: u8, v: Value) -> Values
+// The second of two values of a check, and its closing bracket.
+fn second_value(
+    text: &[u8],
+    from: usize,
+    signed: bool,
+    unit: u8,
+    first: Value,
+) -> Result<Values, Refusal>
     requires { from ≤ length text.now }
-    ensures { SecondValue text.now from signed unit v result.status (take result.count result.list) × (result.count ≤ 6) }
+    ensures { SecondValue text.now from signed unit first (list_end result) (list_of result) }
 {
-    let b = values::open_value(text, from, signed, unit);
-    match b {
-        ReadValue::Refused { number, place } => values::no_values(number, place),
-        ReadValue::Value { v: second, end } => {
-            let m = values::expect(text, end, 3);
-            match m {
-                Mark::Refused { number, place } => values::no_values(number, place),
-                Mark::At(e) => these_values(v, second, true, e),
-            }
-        }
-    }
+    let second = open_value(text, from, signed, unit)?;
+    let end = expect(text, second.end, 3)?;
+    let mut list = [first; 6];
+    list[1] = second.value;
+    Ok(Values {
+        list,
+        count: 2,
+        end,
+    })
 }
 
 // The values of a check, one or two, and its closing bracket.
-fn check_values(text: &[u8], from: usize, signed: bool, two: bool, unit: u8) -> Values
+fn check_values(
+    text: &[u8],
+    from: usize,
+    signed: bool,
+    two: bool,
+    unit: u8,
+) -> Result<Values, Refusal>
     requires { from ≤ length text.now }
-    ensures { ValuesFrom text.now from (check_values two signed) false unit result.status (take result.count result.list) × (result.count ≤ 6) }
+    ensures { ValuesFrom text.now from (check_values two signed) false unit (list_end result) (list_of result) }
 {
-    let a = values::open_value(text, from, signed, unit);
-    match a {
-        ReadValue::Refused { number, place } => values::no_values(number, place),
-        ReadValue::Value { v, end } => {
-            if two {
-                return second_value(text, end, signed, unit, v);
-            }
-            let m = values::expect(text, end, 3);
-            match m {
-                Mark::Refused { number, place } => values::no_values(number, place),
-                Mark::At(e) => these_values(v, v, false, e),
-            }
-        }
+    let first = open_value(text, from, signed, unit)?;
+    if two {
+        return second_value(text, first.end, signed, unit, first.value);
     }
+    let end = expect(text, first.end, 3)?;
+    Ok(Values {
+        list: [first.value; 6],
+        count: 1,
+        end,
+    })
 }
 
 // A check of two ends.
@@ -335,122 +204,127 @@ fn read_pair(
     from: usize,
     slash: bool,
     unit: u8,
-    kind: u8,
-    place: usize,
+    started: Started,
     signed: bool,
     two: bool,
-) -> ReadEntry
+) -> Result<ReadEntry, Refusal>
     requires { from ≤ length text.now }
-    ensures { Entered text.now from (two_ends slash (check_values two signed)) slash unit kind 84 place result.status result.entry (take result.count result.list)
-        × (result.count ≤ 6) }
+    ensures { Entered text.now from (two_ends slash (check_values two signed)) slash unit started.kind started.group started.place
+        (entry_end result) (entry_of result) (values_of result) }
 {
-    let a = entryends::read_end(text, from, false, slash);
-    match a {
-        ReadEnd::Refused { number, place: at } => no_entry(number, at),
-        ReadEnd::End {
-            edge,
-            from: from1,
-            to: to1,
-            end,
-        } => {
-            let b = entryends::read_end(text, end, true, slash);
-            match b {
-                ReadEnd::Refused { number, place: at } => no_entry(number, at),
-                ReadEnd::End {
-                    edge: edge2,
-                    from: from2,
-                    to: to2,
-                    end: end2,
-                } => {
-                    let values = check_values(text, end2, signed, two, unit);
-                    let entry = Entry {
-                        kind: kind,
-                        group: 84,
-                        place: place,
-                        edge1: edge,
-                        from1: from1,
-                        to1: to1,
-                        edge2: edge2,
-                        from2: from2,
-                        to2: to2,
-                    };
-                    with_values(entry, values)
-                }
-            }
-        }
-    }
+    let first = read_end(text, from, false, slash)?;
+    let second = read_end(text, first.end, true, slash)?;
+    let values = check_values(text, second.end, signed, two, unit)?;
+    let entry = Entry {
+        edge1: first.edge,
+        from1: first.from,
+        to1: first.to,
+        edge2: second.edge,
+        from2: second.from,
+        to2: second.to,
+        ..started.bare()
+    };
+    Ok(ReadEntry { entry, values })
 }
 
 // A check of one end.
-fn read_single(text: &[u8], from: usize, slash: bool, unit: u8, kind: u8, place: usize) -> ReadEntry
+fn read_single(
+    text: &[u8],
+    from: usize,
+    slash: bool,
+    unit: u8,
+    started: Started,
+) -> Result<ReadEntry, Refusal>
     requires { from ≤ length text.now }
-    ensures { Entered text.now from (non (end? false slash) ∷ check_values false false) slash unit kind 84 place result.status result.entry (take result.count result.list)
-        × (result.count ≤ 6) }
+    ensures { Entered text.now from (non (end? false slash) ∷ check_values false false) slash unit started.kind started.group started.place
+        (entry_end result) (entry_of result) (values_of result) }
 {
-    let a = entryends::read_end(text, from, false, slash);
-    match a {
-        ReadEnd::Refused { number, place: at } => no_entry(number, at),
-        ReadEnd::End {
-            edge,
-            from: from1,
-            to: to1,
-            end,
-        } => {
-            let values = check_values(text, end, false, false, unit);
-            let entry = Entry {
-                kind: kind,
-                group: 84,
-                place: place,
-                edge1: edge,
-                from1: from1,
-                to1: to1,
-                edge2: 0,
-                from2: 0,
-                to2: 0,
-            };
-            with_values(entry, values)
-        }
-    }
+    let port = read_end(text, from, false, slash)?;
+    let values = check_values(text, port.end, false, false, unit)?;
+    let entry = Entry {
+        edge1: port.edge,
+        from1: port.from,
+        to1: port.to,
+        ..started.bare()
+    };
+    Ok(ReadEntry { entry, values })
 }
 
 // ---- entries, at their keywords
 
-// An entry of a DELAY group, behind its keyword k.
+// An entry of a DELAY group, behind its keyword.
 fn delay_of(
     text: &[u8],
     from: usize,
     slash: bool,
     unit: u8,
-    k: u8,
-    group: u8,
-    place: usize,
-) -> ReadEntry
-    requires { (from ≤ length text.now) × (1 ≤ k) × (k ≤ 4) }
-    ensures { Entered text.now from (delay_tail k slash) slash unit k group place result.status result.entry (take result.count result.list) × (result.count ≤ 6) }
+    started: Started,
+) -> Result<ReadEntry, Refusal>
+    requires { (from ≤ length text.now) × (1 ≤ started.kind) × (started.kind ≤ 4) }
+    ensures { Entered text.now from (delay_tail started.kind slash) slash unit started.kind started.group started.place
+        (entry_end result) (entry_of result) (values_of result) }
 {
-    if k == 1 {
-        return read_iopath(text, from, slash, unit, group, place);
+    match started.kind {
+        1 => read_iopath(text, from, slash, unit, started),
+        2 => read_interconnect(text, from, slash, unit, started),
+        3 => read_port_delay(text, from, slash, unit, started),
+        _ => read_device(text, from, slash, unit, started),
     }
-    if k == 2 {
-        return read_interconnect(text, from, slash, unit, group, place);
-    }
-    if k == 3 {
-        return read_port_delay(text, from, slash, unit, group, place);
-    }
-    read_device(text, from, slash, unit, group, place)
 }
 
-// A check, behind its keyword k.
-fn check_of(text: &[u8], from: usize, slash: bool, unit: u8, k: u8, place: usize) -> ReadEntry
+// A check, behind its keyword.
+fn check_of(
+    text: &[u8],
+    from: usize,
+    slash: bool,
+    unit: u8,
+    started: Started,
+) -> Result<ReadEntry, Refusal>
     requires { from ≤ length text.now }
-    ensures { Entered text.now from (check_tail k slash) slash unit k 84 place result.status result.entry (take result.count result.list) × (result.count ≤ 6) }
+    ensures { Entered text.now from (check_tail started.kind slash) slash unit started.kind started.group started.place
+        (entry_end result) (entry_of result) (values_of result) }
 {
-    if has_second(k) {
-        let signed = is_signed(k);
-        let rows = rows_of(k);
-        return read_pair(text, from, slash, unit, k, place, signed, rows == 2);
+    let kind = started.kind;
+    if has_second(kind) {
+        return read_pair(
+            text,
+            from,
+            slash,
+            unit,
+            started,
+            is_signed(kind),
+            rows_of(kind) == 2,
+        );
     }
-    read_single(text, from, slash, unit, k, place)
+    read_single(text, from, slash, unit, started)
+}
+
+// An entry's keyword, of a kind from `least` to `most`, right behind an opening bracket; room is how many entries there is still room for.
+fn start(
+    text: &[u8],
+    token: Token,
+    least: u8,
+    most: u8,
+    group: u8,
+    room: usize,
+) -> Result<Started, Refusal>
+    requires { (token.start ≤ token.end) × (token.end ≤ length text.now) }
+    ensures { result ≡ start text.now token least most group room }
+{
+    let word = &text[token.start..token.end];
+    let place = token.start;
+    let kind = key_of(word);
+    if token.kind != 7 || kind < least || most < kind {
+        let number = wrong_at(word, token.kind, true);
+        return Err(Refusal { number, place });
+    }
+    if token.long {
+        return Err(Refusal { number: 8, place });
+    }
+    if room == 0 {
+        return Err(Refusal { number: 9, place });
+    }
+    Ok(Started { kind, group, place })
 }
 
 // An entry of a DELAY group, behind its opening bracket; room is how many entries there is still room for.
@@ -461,73 +335,27 @@ pub fn read_delay(
     unit: u8,
     group: u8,
     room: usize,
-) -> ReadEntry
+) -> Result<ReadEntry, Refusal>
     requires { from ≤ length text.now }
-    ensures { Listable text.now from (delay group slash) slash unit room result.status result.entry (take result.count result.list) × (result.count ≤ 6) }
+    ensures { Listable text.now from (delay group slash) slash unit room (entry_end result) (entry_of result) (values_of result) }
 {
-    let t = token_from(text, from);
-    match t {
-        Token::Stop { number, place } => no_entry(number, place),
-        Token::Got {
-            kind,
-            start,
-            end,
-            long,
-        } => {
-            let word = &text[start..end];
-            if kind == 7 {
-                let k = key_of(word);
-                if k < 1 {
-                    return wrong_entry(word, kind, start);
-                }
-                if 4 < k {
-                    return wrong_entry(word, kind, start);
-                }
-                if long {
-                    return no_entry(8, start);
-                }
-                if room == 0 {
-                    return no_entry(9, start);
-                }
-                return delay_of(text, end, slash, unit, k, group, start);
-            }
-            wrong_entry(word, kind, start)
-        }
-    }
+    let token = token_from(text, from)?;
+    let started = start(text, token, 1, 4, group, room)?;
+    delay_of(text, token.end, slash, unit, started)
 }
 
 // A check, behind its opening bracket.
-pub fn read_check(text: &[u8], from: usize, slash: bool, unit: u8, room: usize) -> ReadEntry
+pub fn read_check(
+    text: &[u8],
+    from: usize,
+    slash: bool,
+    unit: u8,
+    room: usize,
+) -> Result<ReadEntry, Refusal>
     requires { from ≤ length text.now }
-    ensures { Listable text.now from (check slash) slash unit room result.status result.entry (take result.count result.list) × (result.count ≤ 6) }
+    ensures { Listable text.now from (check slash) slash unit room (entry_end result) (entry_of result) (values_of result) }
 {
-    let t = token_from(text, from);
-    match t {
-        Token::Stop { number, place } => no_entry(number, place),
-        Token::Got {
-            kind,
-            start,
-            end,
-            long,
-        } => {
-            let word = &text[start..end];
-            if kind == 7 {
-                let k = key_of(word);
-                if k < 11 {
-                    return wrong_entry(word, kind, start);
-                }
-                if 21 < k {
-                    return wrong_entry(word, kind, start);
-                }
-                if long {
-                    return no_entry(8, start);
-                }
-                if room == 0 {
-                    return no_entry(9, start);
-                }
-                return check_of(text, end, slash, unit, k, start);
-            }
-            wrong_entry(word, kind, start)
-        }
-    }
+    let token = token_from(text, from)?;
+    let started = start(text, token, 11, 21, 84, room)?;
+    check_of(text, token.end, slash, unit, started)
 }

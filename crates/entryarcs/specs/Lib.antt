@@ -5,7 +5,6 @@ pub use Rattle.applying.specs.Sound
 pub use Rattle.applying.specs.Find
 pub use Rattle.applying.specs.Same
 pub use Rattle.applying.specs.Search
-pub use Rattle.applying.specs.FoundType
 pub use Rattle.applying.specs.SlotArcs
 pub use Rattle.applying.specs.Current
 pub use Rattle.applying.specs.FoundSlots

@@ -1,6 +1,6 @@
 -- One turn of each loop over arcs or instances: with one that passes the test, and with one that does not.
 -- Assumes nothing.
-use Rattle.std.specs.Prelude.{ℕ, ◌+◌, ◌≤◌, ◌<◌, ◌≡◌, refl, Bool, true, false, List, eqb, length}
+use Rattle.std.specs.Prelude.{ℕ, ◌+◌, ◌≤◌, ◌<◌, ◌≡◌, refl, Bool, true, false, List, eqb, length, Some}
 use Rattle.std.proofs.Common.{sym, add-one}
 use Rattle.classes.specs.Choice.{or}
 use Rattle.names.specs.Order.{same_text}
@@ -8,7 +8,6 @@ use Rattle.sheetparts.specs.Form.{values_at, type_at}
 use Rattle.sheetlaws.specs.Sheet.{ar_next, in_end, nth, place}
 use Rattle.applying.specs.Search.{nth-next}
 use Rattle.applying.specs.Find.{ArcsGood, InsGood, arc_there, in_there, arc-found}
-use Rattle.applying.specs.FoundType.TheVariants.{At}
 use Rattle.grammar.specs.declared.Entry.{Entry}
 use Rattle.applying.specs.Amounts.{lesser, arc_refusal, arc_written}
 use Rattle.applying.specs.Bytes.{some_of, least_of, written_of, device_hit, arc_of, refusal_in, written_in}
@@ -89,7 +88,7 @@ pub hit-is : (b text : List ℕ) (slash : Bool) (f : ℕ) (h : Entry) (p k here 
 hit-is b text slash f h p k here r e d = rw (← e, ← d)
 
 -- The arc that any other entry means is one of the sheet, and so there whole.
-pub found-whole : (b text : List ℕ) (slash : Bool) (m f : ℕ) (h : Entry) (p q : ℕ) → ArcsGood b m f → arc_of b text slash m f h p ≡ At q
+pub found-whole : (b text : List ℕ) (slash : Bool) (m f : ℕ) (h : Entry) (p q : ℕ) → ArcsGood b m f → arc_of b text slash m f h p ≡ Some q
     → ar_next b q ≤ length b
 unfolding arc_of
 found-whole b text slash m f h p q g e = let a = arc-found b _ m f q e in rw a.2 (arc_there b a.0 m f a.1 g).1

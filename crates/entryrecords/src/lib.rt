@@ -19,26 +19,9 @@ fn numbers_at(table: &[u64], at: usize) -> [u64; 18]
     requires { at + 18 ≤ length table.now }
     ensures { result ≡ numbers_at table.now at }
 {
-    [
-        table[at],
-        table[at + 1],
-        table[at + 2],
-        table[at + 3],
-        table[at + 4],
-        table[at + 5],
-        table[at + 6],
-        table[at + 7],
-        table[at + 8],
-        table[at + 9],
-        table[at + 10],
-        table[at + 11],
-        table[at + 12],
-        table[at + 13],
-        table[at + 14],
-        table[at + 15],
-        table[at + 16],
-        table[at + 17],
-    ]
+    let mut numbers = [0; 18];
+    numbers.copy_from_slice(&table[at..at + 18]);
+    numbers
 }
 
 // The entry in row k of a table of entries.
@@ -46,12 +29,10 @@ pub fn entry_at(table: &[u64], k: usize) -> EntryRecord
     requires { 28 * k + 28 ≤ length table.now }
     ensures { result ≡ entry_of table.now k }
 {
-    let head = views::head_at(table, 28 * k);
-    let numbers = numbers_at(table, 28 * k + 10);
     EntryRecord {
-        head: head,
+        head: views::head_at(table, 28 * k),
         count: table[28 * k + 9] as usize,
-        numbers: numbers,
+        numbers: numbers_at(table, 28 * k + 10),
     }
 }
 
@@ -60,9 +41,7 @@ pub fn fill_entries(records: &mut [EntryRecord], table: &[u64], n: usize)
     requires { (n ≤ length records.old) × (28 * n ≤ length table.now) }
     ensures { records.new ≡ entries_of table.now n ++ drop n records.old }
 {
-    let mut k = 0;
-    while k < n {
+    for k in 0..n {
         records[k] = entry_at(table, k);
-        k += 1;
     }
 }

@@ -4,3 +4,4 @@ pub mod Grammar
 pub mod Meaning
 pub mod Reading
 pub mod Outcome
+pub mod Answers

@@ -1,14 +1,13 @@
 -- What the tokens mean (document 01, 'What reading leaves'), and how a token is judged: in the order of the refusal numbers.
 -- Assumes nothing.
-use Rattle.std.specs.Prelude.{◌≡◌, refl, Bool, true, false, List, [], ◌∷◌, ◌++◌, ℕ, zero, suc, ◌+◌, ◌-◌, ◌*◌, eqb, leb, ℤ, length, set}
+use Rattle.std.specs.Prelude.{◌≡◌, refl, Bool, true, false, List, [], ◌∷◌, ◌++◌, ℕ, zero, suc, ◌+◌, ◌-◌, ◌*◌, eqb, leb, ℤ, length, set, Some, None, Result, Ok, Err}
 use Rattle.classes.specs.Choice.{pick}
 use Rattle.tokens.specs.Stream.{Placed}
 use Rattle.words.specs.Words.{key_of, edge_of, scale_of, unit_of}
 use Rattle.numbershape.specs.Value.{number_of}
-use Rattle.numbershape.specs.declared.Number.{Number}
-use Rattle.numbershape.specs.declared.Number.TheVariants as number
-use Rattle.grammar.specs.Machine.{Res, fine, bad}
-use Rattle.grammar.specs.declared.Amount.TheVariants.{Absent, Time}
+use Rattle.numbershape.specs.declared.NotTime.{NotTime}
+use Rattle.numbershape.specs.declared.NotTime.TheVariants.{Fine, Beyond, Wrong}
+use Rattle.grammar.specs.Machine.{Res, fine, bad, bad≢fine}
 use Rattle.grammar.specs.declared.Value.{Value}
 use Rattle.grammar.specs.declared.Entry.{Entry}
 use Rattle.grammar.specs.declared.Cell.{Cell}
@@ -50,7 +49,7 @@ pub record Book : Type 0 where
   pub log : Log
 
 abbrev pub nothing : Value
-nothing = record { min = Absent; typ = Absent; max = Absent }
+nothing = record { min = None; typ = None; max = None }
 
 abbrev pub head_of : ℕ → ℕ → ℕ → Entry
 head_of k g p = record { kind = k; group = g; place = p; edge1 = 0; from1 = 0; to1 = 0; edge2 = 0; from2 = 0; to2 = 0 }
@@ -149,9 +148,9 @@ noted close t l = entered (item_of l ∷ []) l
 
 -- a value with its next number
 abbrev pub timely : ℕ → ℤ → Value → Value
-timely zero z v = record { min = Time z; typ = Absent; max = Absent }
-timely (suc zero) z v = record { min = v.min; typ = Time z; max = Absent }
-timely (suc (suc k)) z v = record { min = v.min; typ = v.typ; max = Time z }
+timely zero z v = record { min = Some z; typ = None; max = None }
+timely (suc zero) z v = record { min = v.min; typ = Some z; max = None }
+timely (suc (suc k)) z v = record { min = v.min; typ = v.typ; max = Some z }
 
 -- marks are of any length; a word or a string may be too long
 abbrev pub overlong : Cls → Placed → Bool
@@ -174,11 +173,17 @@ abbrev pub measured : Book → Placed → ℕ → Book
 measured b t u = record { opened = eqb t.kind 2; slash = b.slash; unit = u; cell_room = b.cell_room; item_room = b.item_room; log = b.log }
 
 -- 'time not a whole femtosecond' (6), 'whole, but beyond 10^15' (7)
-abbrev pub timed : Book → Cls → ℕ → Placed → Number → Res Book
-timed b c k t (number.Time z) = lengthy c t (fine (told b t (valued (timely k z b.log.value) b.log)))
-timed b c k t number.Fine = bad 6 t.start
-timed b c k t number.Beyond = bad 7 t.start
-timed b c k t number.Wrong = bad 4 t.start
+abbrev pub timed : Book → Cls → ℕ → Placed → Result ℤ NotTime → Res Book
+timed b c k t (Ok z) = lengthy c t (fine (told b t (valued (timely k z b.log.value) b.log)))
+timed b c k t (Err Fine) = bad 6 t.start
+timed b c k t (Err Beyond) = bad 7 t.start
+timed b c k t (Err Wrong) = bad 4 t.start
+
+-- what is no time is never taken
+pub refused≢fine : (b : Book) (c : Cls) (k : ℕ) (t : Placed) (n : NotTime) {d : Book} → timed b c k t (Err n) ≡ fine d → ⊥
+refused≢fine b c k t Fine e = bad≢fine e
+refused≢fine b c k t Beyond e = bad≢fine e
+refused≢fine b c k t Wrong e = bad≢fine e
 
 abbrev pub begins : ℕ → Log → Begun
 begins p l = record { place = p; typefrom = 0; typeto = 0; sort = 0; pathfrom = 0; pathto = 0; before = length l.items }

@@ -1,19 +1,17 @@
-// What a reading hands over: values, entries, and the answers of the readers. No code: the definitions speak of these.
+// What a reading hands over: values, entries, cells, and what the readers answer where they do not refuse. No code: the definitions speak of
+// these.
 #![tactic(auto)]
 
-// 'each of the three numbers is supplied or absent': one of them, in femtoseconds.
-#[derive(Clone, Copy)]
-pub enum Amount {
-    Absent,
-    Time(i64),
-}
+ghost use Rattle.std.specs.Prelude.{◌≤◌};
 
-// A value: its minimum, typical and maximum.
+use tokenforms::Token;
+
+// A value: its minimum, typical and maximum, in femtoseconds; 'each of the three numbers is supplied or absent'.
 #[derive(Clone, Copy)]
 pub struct Value {
-    pub min: Amount,
-    pub typ: Amount,
-    pub max: Amount,
+    pub min: Option<i64>,
+    pub typ: Option<i64>,
+    pub max: Option<i64>,
 }
 
 // An entry without its values: its kind as on the sheet (4 for DEVICE), its group ('A', 'I' or 'T'), its keyword's place, and its ends with
@@ -43,73 +41,42 @@ pub struct Cell {
     pub entries: usize,
 }
 
-// A number where one is expected.
-#[derive(Clone, Copy)]
-pub enum Here {
-    Time(i64),
-    Refused { number: u8, place: usize },
-}
-
-// A token where it is expected: the place behind it.
-#[derive(Clone, Copy)]
-pub enum Mark {
-    At(usize),
-    Refused { number: u8, place: usize },
-}
-
-#[derive(Clone, Copy)]
-pub enum ReadValue {
-    Value { v: Value, end: usize },
-    Refused { number: u8, place: usize },
-}
-
 // A name or a text, from .. to ...
 #[derive(Clone, Copy)]
-pub enum ReadName {
-    Name { from: usize, to: usize },
-    Refused { number: u8, place: usize },
+pub struct Span {
+    pub from: usize,
+    pub to: usize,
 }
 
+// An end of an entry: its edge as on the sheet (0: none), its port's name, from .. to .., and the place behind it.
 #[derive(Clone, Copy)]
-pub enum EdgeHere {
-    Edge(u8),
-    Refused(u8),
+pub struct End {
+    pub edge: u8,
+    pub from: usize,
+    pub to: usize,
+    pub end: usize,
 }
 
+// A value, and the place behind it.
 #[derive(Clone, Copy)]
-pub enum ReadEnd {
-    End {
-        edge: u8,
-        from: usize,
-        to: usize,
-        end: usize,
-    },
-    Refused {
-        number: u8,
-        place: usize,
-    },
+pub struct ReadValue {
+    pub value: Value,
+    pub end: usize,
 }
 
-// How a construct that fills something else ended.
-#[derive(Clone, Copy)]
-pub enum Status {
-    Done(usize),
-    Refused { number: u8, place: usize },
-}
-
+// The first `count` values of the list, and the place behind the closing bracket of their entry.
 #[derive(Clone, Copy)]
 pub struct Values {
-    pub status: Status,
     pub list: [Value; 6],
     pub count: usize,
+    pub end: usize,
+    ghost few: { count ≤ 6 },
 }
 
 #[derive(Clone, Copy)]
 pub struct ReadEntry {
-    pub status: Status,
     pub entry: Entry,
-    pub list: [Value; 6],
-    pub count: usize,
+    pub values: Values,
 }
 
 // Where in a cell a reading stands: among its sections, in a DELAY, in one of its groups, in a TIMINGCHECK.
@@ -122,22 +89,12 @@ pub enum Within {
     Check,
 }
 
-// The token right behind an opening bracket, looked at from a place and not yet taken, with its keyword's number (0: it is none); or the
-// refusal that ended the reading before.
+// The token right behind an opening bracket, looked at from a place and not yet taken, with its keyword's number (0: it is none).
 #[derive(Clone, Copy)]
-pub enum Hand {
-    At {
-        from: usize,
-        kind: u8,
-        start: usize,
-        end: usize,
-        long: bool,
-        key: u8,
-    },
-    Refused {
-        number: u8,
-        place: usize,
-    },
+pub struct Hand {
+    pub from: usize,
+    pub token: Token,
+    pub key: u8,
 }
 
 // What the header said, and the token behind it: the first cell's keyword, or what stands in its place.
@@ -159,22 +116,18 @@ pub enum Turn {
     },
     Entry(usize),
     Done(usize),
-    Refused {
-        number: u8,
-        place: usize,
-    },
 }
 
-// One of two keywords.
+// Which of two keywords stands there, and the place behind it.
 #[derive(Clone, Copy)]
-pub enum Keyword {
-    Found { second: bool, end: usize },
-    Refused { number: u8, place: usize },
+pub struct Keyword {
+    pub second: bool,
+    pub end: usize,
 }
 
 // A cell's sections, or a whole cell: the place behind it, and the number of its entries.
 #[derive(Clone, Copy)]
-pub enum ReadBody {
-    Done { end: usize, count: usize },
-    Refused { number: u8, place: usize },
+pub struct ReadBody {
+    pub end: usize,
+    pub count: usize,
 }

@@ -1,11 +1,12 @@
 -- A word of a table is never over 1,024 bytes long.
 -- Assumes nothing.
-use Rattle.std.specs.Prelude.{◌≡◌, refl, Bool, true, false, List, ℕ, ◌+◌, ◌-◌, ◌≤◌, eqb, leb, ltb, length, drop}
+use Rattle.std.specs.Prelude.{◌≡◌, refl, Bool, true, false, List, ℕ, ◌+◌, ◌-◌, ◌≤◌, eqb, leb, ltb, length, drop, Result, Ok, Err}
 use Rattle.std.proofs.Common.{sym, ◌∙◌, subst, arith, length-drop, length-take-le, leb-true, le-ltb}
 use Rattle.classes.specs.Choice.{pick}
 use Rattle.scanning.specs.declared.Blank.{Blank}
 use Rattle.tokenforms.specs.declared.Token.{Token}
-use Rattle.tokenforms.specs.declared.Token.TheVariants.{Got, Stop}
+use Rattle.tokenforms.specs.declared.Refusal.{Refusal}
+use Rattle.tokenforms.specs.Tokens.{Got}
 use Rattle.tokenforms.specs.Tokens.{string_of, token_of, behind, token_at, block_end, spoilt, closing}
 use Rattle.scanning.specs.Machines.{blank_end, blank_at}
 use Rattle.tokens.specs.Stream.{part, onwards}
@@ -15,11 +16,11 @@ use Rattle.words.specs.Laws.{stands, held, every}
 use Rattle.grammar.specs.Grammar.{Table, keys, scales, dividers, edges, units, number_in}
 
 -- a word is too long if it has over 1,024 bytes
-abbrev Fair : Token → Type 0
-Fair (Got k b e l) = k ≡ 7 → l ≡ ltb 1024 (e - b)
-Fair (Stop n q) = Unit {0}
+abbrev Fair : Result Token Refusal → Type 0
+Fair (Ok tok) = tok.kind ≡ 7 → tok.long ≡ ltb 1024 (tok.end - tok.start)
+Fair (Err why) = Unit {0}
 
-either : (t : Bool) (x y : Token) → Fair x → Fair y → Fair (pick t x y)
+either : (t : Bool) (x y : Result Token Refusal) → Fair x → Fair y → Fair (pick t x y)
 either true x y f g = f
 either false x y f g = g
 

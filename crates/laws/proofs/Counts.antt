@@ -1,19 +1,18 @@
 -- Each listed cell has as many entries as entries' keywords stand between its keyword and the next cell's.
 -- Assumes nothing.
-use Rattle.std.specs.Prelude.{◌≡◌, refl, false, List, [], ◌∷◌, ◌++◌, ℕ, suc, ◌+◌, ◌-◌, ◌≤◌, eqb, length}
+use Rattle.std.specs.Prelude.{◌≡◌, refl, false, List, [], ◌∷◌, ◌++◌, ℕ, suc, ◌+◌, ◌-◌, ◌≤◌, eqb, length, ℤ, Result, Ok, Err}
 use Rattle.std.proofs.Common.{sym, ap, subst, ◌∙◌, true≢false, append-nil, append_assoc, zero-le, arith, length-append, eqb-true}
 use Rattle.std.proofs.Math.Option.{none, some}
 use Rattle.classes.specs.Choice.{pick}
 use Rattle.tokens.specs.Stream.{Placed}
 use Rattle.numbershape.specs.Value.{number_of}
-use Rattle.numbershape.specs.declared.Number.{Number}
-use Rattle.numbershape.specs.declared.Number.TheVariants as number
+use Rattle.numbershape.specs.declared.NotTime.{NotTime}
 use Rattle.grammar.specs.Ll.{none≢some}
-use Rattle.grammar.specs.Machine.{fine, bad, fine_inj, bad≢fine, judges}
+use Rattle.grammar.specs.Machine.{fine, bad, fine_inj, judges}
 use Rattle.grammar.specs.Grammar.{Cls, Note, skip, heading, type, top, named, any, finish, edged, end, plain, empty, all, whole, close, Act, note, divide, scaled, unity, joined, cell, entry, time}
 use Rattle.grammar.specs.Grammar as G
 use Rattle.grammar.specs.declared.Cell.{Cell}
-use Rattle.grammar.specs.Meaning.{Log, Book, item_of, noted, overlong, timed, judge, judge_by}
+use Rattle.grammar.specs.Meaning.{Log, Book, item_of, noted, overlong, refused≢fine, timed, judge, judge_by}
 use Rattle.laws.specs.Walk.{through, along_inv, kept_if, some_inj}
 use Rattle.laws.specs.Taken.{As, starting, Taken, terms, tells, opens_cell, opens_entry}
 use Rattle.laws.specs.Phases.{leaves, turns, proper, moves, every, from, to}
@@ -128,11 +127,9 @@ one-step b c (entry k) t d q p n r h e y z =
     (λ i j. let u = i refl in record { same = ap (λ (x : ℕ). entry_counts b.log.cells ++ x ∷ r) (omega arith); kept = λ f. u }))
 one-step b c (time s k) t d q p n r h e y z = by (number_of s b.unit t.bytes) e
   where
-    by : (v : Number) → timed b c k t v ≡ fine d → Step q b.log p d.log (time s k) n r
-    by (number.Time u) e = simply c t (time s k) q p b.log n r _ d (still q p b.log _ _ n r h (record { same = refl; kept = y })) e
-    by number.Fine e = absurd (bad≢fine e)
-    by number.Beyond e = absurd (bad≢fine e)
-    by number.Wrong e = absurd (bad≢fine e)
+    by : (v : Result ℤ NotTime) → timed b c k t v ≡ fine d → Step q b.log p d.log (time s k) n r
+    by (Ok u) e = simply c t (time s k) q p b.log n r _ d (still q p b.log _ _ n r h (record { same = refl; kept = y })) e
+    by (Err y) e = absurd (refused≢fine b c k t y e)
 
 -- outside the cells no entry comes before the next cell
 outside_note : (k : Note) (p : ℕ) → leaves 0 k ≡ some p → p ≡ 0

@@ -1,17 +1,17 @@
 -- The judgment of one token that the grammar takes, against the plain statements: it passes where nothing is amiss, and else it is refused
 -- at its place with the lowest number of what is amiss.
 -- Assumes nothing.
-use Rattle.std.specs.Prelude.{◌≡◌, refl, Bool, true, false, [], ◌∷◌, ◌⊎◌, ℕ, ◌-◌, ◌≤◌, eqb, length}
+use Rattle.std.specs.Prelude.{◌≡◌, refl, Bool, true, false, [], ◌∷◌, ◌⊎◌, ℕ, ◌-◌, ◌≤◌, eqb, length, ℤ, Result, Ok, Err}
 use Rattle.std.proofs.Common.{sym, ap, subst, ◌∙◌, true≢false, inl, inr, ⊎_elim, arith, eqb-true}
 use Rattle.std.proofs.lemmas.Bool.{eqb-false}
 use Rattle.classes.specs.Choice.{pick}
 use Rattle.tokens.specs.Stream.{Placed}
 use Rattle.numbershape.specs.Value.{number_of}
-use Rattle.numbershape.specs.declared.Number.{Number}
-use Rattle.numbershape.specs.declared.Number.TheVariants as number
+use Rattle.numbershape.specs.declared.NotTime.{NotTime}
+use Rattle.numbershape.specs.declared.NotTime.TheVariants.{Fine, Beyond, Wrong}
 use Rattle.grammar.specs.Machine.{Res, fine, bad, fine_inj, bad≢fine}
 use Rattle.grammar.specs.Grammar.{Cls, Act, note, divide, scaled, unity, joined, cell, entry, time}
-use Rattle.grammar.specs.Meaning.{Book, overlong, timed, judge, judge_by}
+use Rattle.grammar.specs.Meaning.{Book, overlong, refused≢fine, timed, judge, judge_by}
 use Rattle.laws.specs.Taken.{Taken, rescaled, opens_cell, opens_entry, cell_words, entry_words, Timely, Short, Amiss, broken, beyond, long, no_cell, no_entry}
 use Rattle.laws.specs.Phases.{Sound}
 
@@ -122,11 +122,9 @@ passed_by b c (entry i) t d e =
     })
 passed_by b c (time g k) t d e = by (number_of g b.unit t.bytes) refl e
   where
-    by : (n : Number) → number_of g b.unit t.bytes ≡ n → timed b c k t n ≡ fine d → Passed b (pair c (time g k) t) d
-    by (number.Time z) p e = simply b c (time g k) t _ d (λ h j y. (z, cc)) refl refl refl refl refl refl e
-    by number.Fine p e = absurd (bad≢fine e)
-    by number.Beyond p e = absurd (bad≢fine e)
-    by number.Wrong p e = absurd (bad≢fine e)
+    by : (n : Result ℤ NotTime) → number_of g b.unit t.bytes ≡ n → timed b c k t n ≡ fine d → Passed b (pair c (time g k) t) d
+    by (Ok z) p e = simply b c (time g k) t _ d (λ h j y. (z, cc)) refl refl refl refl refl refl e
+    by (Err y) p e = absurd (refused≢fine b c k t y e)
 
 -- A TOKEN PASSES
 pub passed : (b : Book) (x : Taken) (d : Book) → judge b x.by x.tok ≡ fine d → Passed b x d
@@ -140,7 +138,7 @@ module _ (u cr ir : ℕ) (x : Taken) where
   least_6 m (no_cell e f) = omega arith
   least_6 m (no_entry e f) = omega arith
 
-  least_7 : (g : Bool) (j : ℕ) → x.by.act ≡ time g j → number_of g u x.tok.bytes ≡ number.Beyond → (m : ℕ) → Amiss u cr ir [] x m → 7 ≤ m
+  least_7 : (g : Bool) (j : ℕ) → x.by.act ≡ time g j → number_of g u x.tok.bytes ≡ Err Beyond → (m : ℕ) → Amiss u cr ir [] x m → 7 ≤ m
   least_7 g j p q m (broken s k e f) = let z : ◌≡◌ {A = ℕ} 0 1 = cc in absurd (omega arith)
   least_7 g j p q m (beyond s k e f) = omega arith
   least_7 g j p q m (long e) = omega arith
@@ -204,15 +202,15 @@ blamed_by b c (time g k) t n q o e = by (number_of g b.unit t.bytes) refl e
     x : Taken
     x = pair c (time g k) t
 
-    by : (r : Number) → number_of g b.unit t.bytes ≡ r → timed b c k t r ≡ bad n q → Blamed b x n q
-    by (number.Time z) p e = plain_blame b x _ n q (λ h j y. (z, cc)) e
-    by number.Fine p e =
+    by : (r : Result ℤ NotTime) → number_of g b.unit t.bytes ≡ r → timed b c k t r ≡ bad n q → Blamed b x n q
+    by (Ok z) p e = plain_blame b x _ n q (λ h j y. (z, cc)) e
+    by (Err Fine) p e =
         let (i, j) = bad_inj e in
         rw (← i) (record { place = sym j; amiss = broken g k refl p; least = least_6 b.unit b.cell_room b.item_room x })
-    by number.Beyond p e =
+    by (Err Beyond) p e =
         let (i, j) = bad_inj e in
         rw (← i) (record { place = sym j; amiss = beyond g k refl p; least = least_7 b.unit b.cell_room b.item_room x g k refl p })
-    by number.Wrong p e = absurd (o g k b.unit refl p)
+    by (Err Wrong) p e = absurd (o g k b.unit refl p)
 
 -- A TOKEN IS REFUSED
 pub blamed : (b : Book) (x : Taken) (n q : ℕ) → Sound x.by x.tok → judge b x.by x.tok ≡ bad n q → Blamed b x n q

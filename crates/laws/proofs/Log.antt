@@ -1,18 +1,17 @@
 -- What a reading leaves lists each cell and each entry once, in file order, at its keyword's place.
 -- Assumes nothing.
-use Rattle.std.specs.Prelude.{◌≡◌, refl, Bool, true, false, List, [], ◌∷◌, ◌++◌, ℕ, eqb}
+use Rattle.std.specs.Prelude.{◌≡◌, refl, Bool, true, false, List, [], ◌∷◌, ◌++◌, ℕ, eqb, ℤ, Result, Ok, Err}
 use Rattle.std.proofs.Common.{sym, ap, subst, ◌∙◌, append-nil, append_assoc, eqb-true}
 use Rattle.std.proofs.Math.Option.{none, some}
 use Rattle.classes.specs.Choice.{pick}
 use Rattle.tokens.specs.Stream.{Placed}
 use Rattle.numbershape.specs.Value.{number_of}
-use Rattle.numbershape.specs.declared.Number.{Number}
-use Rattle.numbershape.specs.declared.Number.TheVariants as number
-use Rattle.grammar.specs.Machine.{fine, bad, fine_inj, bad≢fine, judges}
+use Rattle.numbershape.specs.declared.NotTime.{NotTime}
+use Rattle.grammar.specs.Machine.{fine, bad, fine_inj, judges}
 use Rattle.grammar.specs.Grammar.{Cls, Note, skip, heading, type, top, named, any, finish, edged, end, plain, empty, all, whole, close, Act, note, divide, scaled, unity, joined, cell, entry, time}
 use Rattle.grammar.specs.Grammar as G
 use Rattle.grammar.specs.declared.Cell.{Cell}
-use Rattle.grammar.specs.Meaning.{Item, Log, Book, item_of, noted, overlong, timed, judge, judge_by}
+use Rattle.grammar.specs.Meaning.{Item, Log, Book, item_of, noted, overlong, refused≢fine, timed, judge, judge_by}
 use Rattle.laws.specs.Walk.{through, along_inv, kept_if, some_inj}
 use Rattle.laws.specs.Taken.{As, starting, Taken, terms, tells, opens_cell, opens_entry, those, cell_words, entry_words}
 use Rattle.laws.specs.Phases.{leaves, turns, proper, moves, every, from, to}
@@ -122,11 +121,9 @@ one_more b c (entry k) t d q p h e =
     (record { entries = ap (λ (x : List ℕ). x ++ t.start ∷ []) (sym (append-nil (item_places b.log.items))); cells = sym (append-nil _) }))
 one_more b c (time s k) t d q p h e = by (number_of s b.unit t.bytes) e
   where
-    by : (n : Number) → timed b c k t n ≡ fine d → More q b.log p d.log (time s k) t
-    by (number.Time z) e = quietly b c (time s k) t _ d q p refl refl h (record { entries = refl; cells = refl }) e
-    by number.Fine e = absurd (bad≢fine e)
-    by number.Beyond e = absurd (bad≢fine e)
-    by number.Wrong e = absurd (bad≢fine e)
+    by : (n : Result ℤ NotTime) → timed b c k t n ≡ fine d → More q b.log p d.log (time s k) t
+    by (Ok z) e = quietly b c (time s k) t _ d q p refl refl h (record { entries = refl; cells = refl }) e
+    by (Err y) e = absurd (refused≢fine b c k t y e)
 
 starts-cons : (f : Act → Bool) (x : Taken) (xs : List Taken) → starts (those f (x ∷ xs)) ≡ starts (those f (x ∷ [])) ++ starts (those f xs)
 starts-cons f x xs = by (f x.by.act)

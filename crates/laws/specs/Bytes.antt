@@ -1,7 +1,7 @@
 -- Refusal 2 by bytes: every byte before the end of the tokens is legal, and where they end with 2 an illegal byte stands, or a backslash
 -- without a byte 0x21 to 0x7E after it.
 -- Assumes nothing.
-use Rattle.std.specs.Prelude.{◌≡◌, Bool, not, ◌⊎◌, leb, ltb, drop, get_or}
+use Rattle.std.specs.Prelude.{◌≡◌, Bool, not, ◌⊎◌, leb, ltb, drop, get_or, Result, Ok, Err}
 use Rattle.std.proofs.Math.Path.{refl}
 use Rattle.std.proofs.Common.{ap, sym, subst, ◌∙◌, ⊎_elim, not-suc-le-zero, le_of_suc-le-suc, arith, get_or-drop}
 use Rattle.std.proofs.Math.Bool.{true, false, true≢false}
@@ -40,7 +40,8 @@ use Rattle.tokens.specs.Stream.{Stream, stream, stream_turn, onward, onwards}
 use Rattle.laws.specs.Stops.{since_within, ends}
 use Rattle.scanning.specs.declared.Blank.{Blank}
 use Rattle.tokenforms.specs.declared.Token.{Token}
-use Rattle.tokenforms.specs.declared.Token.TheVariants.{Got, Stop}
+use Rattle.tokenforms.specs.declared.Refusal.{Refusal}
+use Rattle.tokenforms.specs.Tokens.{Got, Refused}
 
 -- 'Legal bytes are tab, LF, CR and 0x20 to 0x7E': the class of the others is 0
 abbrev pub Legal : ℕ → Type 0
@@ -197,11 +198,11 @@ opening-behind b (c ∷ l) h e =
     one false e = omega arith
 
 -- what stands before a token's end, and before and at what is none
-abbrev Found : List ℕ → ℕ → Token → Type 0
-Found s p (Got k b e l) = (j : ℕ) → p ≤ j → j < e → Legal (get_or s j 0)
-Found s p (Stop r q) = ((j : ℕ) → p ≤ j → j < q → Legal (get_or s j 0)) × (r ≡ 2 → Illegal s q ⊎ Bare s q) × (r ≡ 3 → Legal (get_or s q 0))
+abbrev Found : List ℕ → ℕ → Result Token Refusal → Type 0
+Found s p (Ok tok) = (j : ℕ) → p ≤ j → j < tok.end → Legal (get_or s j 0)
+Found s p (Err why) = ((j : ℕ) → p ≤ j → j < why.place → Legal (get_or s j 0)) × (why.number ≡ 2 → Illegal s why.place ⊎ Bare s why.place) × (why.number ≡ 3 → Legal (get_or s why.place 0))
 
-either : (s : List ℕ) (p : ℕ) (t : Bool) (x y : Token) → (t ≡ true → Found s p x) → (t ≡ false → Found s p y) → Found s p (pick t x y)
+either : (s : List ℕ) (p : ℕ) (t : Bool) (x y : Result Token Refusal) → (t ≡ true → Found s p x) → (t ≡ false → Found s p y) → Found s p (pick t x y)
 either s p true x y f g = f refl
 either s p false x y f g = g refl
 
@@ -350,18 +351,18 @@ all : (f : ℕ) (s : List ℕ) (p : ℕ) → p ≤ length s → length s - p < f
 all zero s p h l = absurd (not-suc-le-zero l)
 all (suc f) s p h l = rw (stream_turn s p h) (by (token_at s p) refl (found s p h) (all f s))
   where
-    by : (t : Token) → token_at s p ≡ t → Found s p t → ((e : ℕ) → e ≤ length s → length s - e < f → All s e (stream s e)) →
+    by : (t : Result Token Refusal) → token_at s p ≡ t → Found s p t → ((e : ℕ) → e ≤ length s → length s - e < f → All s e (stream s e)) →
         All s p (onward s t (stream s))
-    by (Got k b e x) q g ih =
-        let (u, v, w) = onwards s p k b e x h q in
-        let (y, z, o) = ih e w (omega arith) in
-        ((λ j i n. past j (ltb j e) refl i n y), z, o)
+    by (Ok tok) q g ih =
+        let (u, v, w) = onwards s p tok.kind tok.start tok.end tok.long h q in
+        let (y, z, o) = ih tok.end w (omega arith) in
+        ((λ j i n. past j (ltb j tok.end) refl i n y), z, o)
       where
-        past : (j : ℕ) (v : Bool) → ltb j e ≡ v → p ≤ j → j < (stream s e).place → ((j : ℕ) → e ≤ j → j < (stream s e).place → Legal (get_or s j 0)) →
+        past : (j : ℕ) (v : Bool) → ltb j tok.end ≡ v → p ≤ j → j < (stream s tok.end).place → ((j : ℕ) → tok.end ≤ j → j < (stream s tok.end).place → Legal (get_or s j 0)) →
             Legal (get_or s j 0)
-        past j true t i n y = g j i (ltb-true j e t)
-        past j false t i n y = y j (ltb-false j e t) n
-    by (Stop n r) q g ih = g
+        past j true t i n y = g j i (ltb-true j tok.end t)
+        past j false t i n y = y j (ltb-false j tok.end t) n
+    by (Err why) q g ih = g
 
 -- WHAT STANDS WHERE THE TOKENS END WITH 2
 pub at-two : (s : List ℕ) → (stream s 0).number ≡ 2 → Illegal s (stream s 0).place ⊎ Bare s (stream s 0).place

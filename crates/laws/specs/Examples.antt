@@ -1,6 +1,6 @@
 -- Whole texts, computed through tokens, grammar and meaning: the listing of document 01, and the smallest telling texts of the settled points.
 -- Assumes nothing.
-use Rattle.std.specs.Prelude.{◌≡◌, refl, true, false, List, [], ◌∷◌, ◌++◌, ℕ, pos, neg_ℤ, replicate}
+use Rattle.std.specs.Prelude.{◌≡◌, refl, true, false, List, [], ◌∷◌, ◌++◌, ℕ, pos, neg_ℤ, replicate, Some}
 use Rattle.classes.specs.Text.{bytes}
 use Rattle.classes.specs.Classes.{class_of}
 use Rattle.scanning.specs.Scan.{scan_len, scan_st}
@@ -25,7 +25,6 @@ use Rattle.numbershape.specs.Shape.{
   parts_of,
 }
 use Rattle.numbershape.specs.Value.{exact, number_of}
-use Rattle.grammar.specs.declared.Amount.TheVariants.{Time}
 use Rattle.grammar.specs.declared.Cell.{Cell}
 use Rattle.grammar.specs.Machine.{Res, fine, bad, run}
 use Rattle.grammar.specs.Grammar.{alts, file, one_cell_of}
@@ -65,8 +64,8 @@ absolute =
     record {
       head = record { kind = 1; group = 65; place = 106; edge1 = 1; from1 = 122; to1 = 125; edge2 = 0; from2 = 127; to2 = 128 };
       values =
-          record { min = Time (pos 200000); typ = Time (pos 300000); max = Time (pos 400000) }
-          ∷ record { min = Time (pos 500000); typ = Time (pos 500000); max = Time (pos 500000) } ∷ [];
+          record { min = Some (pos 200000); typ = Some (pos 300000); max = Some (pos 400000) }
+          ∷ record { min = Some (pos 500000); typ = Some (pos 500000); max = Some (pos 500000) } ∷ [];
     }
 
 -- 'I IOPATH posedge clk - q _:_:_ -100000:-100000:-100000'
@@ -74,7 +73,7 @@ abbrev pub increment : Item
 increment =
     record {
       head = record { kind = 1; group = 73; place = 155; edge1 = 1; from1 = 171; to1 = 174; edge2 = 0; from2 = 176; to2 = 177 };
-      values = nothing ∷ record { min = Time (neg_ℤ (pos 100000)); typ = Time (neg_ℤ (pos 100000)); max = Time (neg_ℤ (pos 100000)) } ∷ [];
+      values = nothing ∷ record { min = Some (neg_ℤ (pos 100000)); typ = Some (neg_ℤ (pos 100000)); max = Some (neg_ℤ (pos 100000)) } ∷ [];
     }
 
 -- 'T SETUP - d posedge clk 150000:150000:150000'
@@ -82,7 +81,7 @@ abbrev pub setup : Item
 setup =
     record {
       head = record { kind = 11; group = 84; place = 203; edge1 = 0; from1 = 209; to1 = 210; edge2 = 1; from2 = 220; to2 = 223 };
-      values = record { min = Time (pos 150000); typ = Time (pos 150000); max = Time (pos 150000) } ∷ [];
+      values = record { min = Some (pos 150000); typ = Some (pos 150000); max = Some (pos 150000) } ∷ [];
     }
 
 pub listed : as_file listing ≡ lists (the_cell ∷ []) (absolute ∷ increment ∷ setup ∷ [])

@@ -1,14 +1,14 @@
 -- Where a reading stands: outside the cells, in a cell, in an entry. The grammar opens and closes cells and entries in turn, and where it
 -- takes a time it takes a number of that sign: one more test of the table, computed.
 -- Assumes nothing.
-use Rattle.std.specs.Prelude.{◌≡◌, refl, Bool, true, false, List, [], ◌∷◌, ℕ, ◌+◌, ◌*◌, ◌/◌, ◌%◌, ◌^◌, eqb, leb, ltb, ℤ}
+use Rattle.std.specs.Prelude.{◌≡◌, refl, Bool, true, false, List, [], ◌∷◌, ℕ, ◌+◌, ◌*◌, ◌/◌, ◌%◌, ◌^◌, eqb, leb, ltb, ℤ, Ok, Err}
 use Rattle.std.proofs.Common.{sym, subst, ◌∙◌, true≢false, arith}
 use Rattle.std.proofs.Math.Option.{Option, none, some}
 use Rattle.classes.specs.Choice.{pick}
 use Rattle.tokens.specs.Stream.{Placed}
 use Rattle.numbershape.specs.Shape.{is_number}
 use Rattle.numbershape.specs.Value.{number_of, exact, limit}
-use Rattle.numbershape.specs.declared.Number.TheVariants as answer
+use Rattle.numbershape.specs.declared.NotTime.TheVariants.{Fine, Beyond, Wrong}
 use Rattle.grammar.specs.Ll.{lit, non, Alt, Row, Took, choose, onto, feed, feeds, none≢some, both_true}
 use Rattle.grammar.specs.Grammar.{
   Cls,
@@ -269,23 +269,23 @@ numeric-looks s (path d) w e f = absurd (true≢false (sym e))
 numeric-looks s (port d) w e f = absurd (true≢false (sym e))
 numeric-looks s (number t) w e f = subst (λ (x : Bool). is_number x w ≡ true) (alike_eq s t e) f
 
-never_wrong : (m : Bool) (a b c : ℕ) → exact m a b c ≡ answer.Wrong → ⊥
+never_wrong : (m : Bool) (a b c : ℕ) → exact m a b c ≡ Err Wrong → ⊥
 unfolding exact
 never_wrong m a b c e = by (eqb ((a * 10 ^ b) % 10 ^ c) 0) (leb ((a * 10 ^ b) / 10 ^ c) limit) _ e
   where
-    by : (v w : Bool) (z : ℤ) → pick v (pick w (answer.Time z) answer.Beyond) answer.Fine ≡ answer.Wrong → ⊥
+    by : (v w : Bool) (z : ℤ) → pick v (pick w (Ok z) (Err Beyond)) (Err Fine) ≡ Err Wrong → ⊥
     by true true z e = let z : ◌≡◌ {A = ℕ} 0 1 = cc in omega arith
     by true false z e = let z : ◌≡◌ {A = ℕ} 0 1 = cc in omega arith
     by false w z e = let z : ◌≡◌ {A = ℕ} 0 1 = cc in omega arith
 
 -- 'So a word at a number's place is a number or one of two refusals (6 and 7), once its shape is right.'
-not-wrong : (s : Bool) (u : ℕ) (w : List ℕ) → is_number s w ≡ true → number_of s u w ≡ answer.Wrong → ⊥
+not-wrong : (s : Bool) (u : ℕ) (w : List ℕ) → is_number s w ≡ true → number_of s u w ≡ Err Wrong → ⊥
 unfolding number_of
 not-wrong s u w e f = never_wrong _ _ _ _ (rw e at f)
 
 -- a token that a time takes is not of a wrong shape
 abbrev pub Sound : Term → Placed → Type 0
-Sound c t = (s : Bool) (k u : ℕ) → c.act ≡ time s k → number_of s u t.bytes ≡ answer.Wrong → ⊥
+Sound c t = (s : Bool) (k u : ℕ) → c.act ≡ time s k → number_of s u t.bytes ≡ Err Wrong → ⊥
 
 sound : (c : Term) (t : Placed) → proper c.cls c.act ≡ true → fits c t ≡ true → Sound c t
 sound c t p f s k u e w =

@@ -1,6 +1,6 @@
 -- The places of a text's tokens rise; what ends the tokens stands behind them all, and is 2, 3, or 4 at the text's end.
 -- Assumes nothing.
-use Rattle.std.specs.Prelude.{◌≡◌, refl, Bool, true, false, List, [], ◌∷◌, ◌++◌, ◌⊎◌, ℕ, zero, suc, ◌+◌, ◌-◌, ◌≤◌, ◌<◌, leb, eqb, length, drop, get_or}
+use Rattle.std.specs.Prelude.{◌≡◌, refl, Bool, true, false, List, [], ◌∷◌, ◌++◌, ◌⊎◌, ℕ, zero, suc, ◌+◌, ◌-◌, ◌≤◌, ◌<◌, leb, eqb, length, drop, get_or, Result, Ok, Err}
 use Rattle.std.proofs.Common.{inl, inr, zero-le, not-suc-le-zero, arith, length-drop, leb-true}
 use Rattle.classes.specs.Choice.{pick}
 use Rattle.classes.specs.Classes.{class_of}
@@ -11,17 +11,18 @@ use Rattle.scanning.specs.Machines.{blank_end, blank_at}
 use Rattle.tokens.specs.Stream.{Placed, Stream, stream, stream_turn, onward, onwards}
 use Rattle.scanning.specs.declared.Blank.{Blank}
 use Rattle.tokenforms.specs.declared.Token.{Token}
-use Rattle.tokenforms.specs.declared.Token.TheVariants.{Got, Stop}
+use Rattle.tokenforms.specs.declared.Refusal.{Refusal}
+use Rattle.tokenforms.specs.Tokens.{Got, Refused}
 
 -- the number and the place of what ends the tokens of n bytes
 abbrev pub Ends : ℕ → ℕ → ℕ → Type 0
 Ends n r q = (r ≡ 2) ⊎ ((r ≡ 3) ⊎ ((r ≡ 4) × (q ≡ n)))
 
-abbrev Stops : ℕ → ℕ → Token → Type 0
-Stops p n (Got k b e l) = 0 ≤ 0
-Stops p n (Stop r q) = (p ≤ q) × Ends n r q
+abbrev Stops : ℕ → ℕ → Result Token Refusal → Type 0
+Stops p n (Ok tok) = 0 ≤ 0
+Stops p n (Err why) = (p ≤ why.place) × Ends n why.number why.place
 
-either : (p n : ℕ) (t : Bool) (x y : Token) → (t ≡ true → Stops p n x) → (t ≡ false → Stops p n y) → Stops p n (pick t x y)
+either : (p n : ℕ) (t : Bool) (x y : Result Token Refusal) → (t ≡ true → Stops p n x) → (t ≡ false → Stops p n y) → Stops p n (pick t x y)
 either p n true x y f g = f refl
 either p n false x y f g = g refl
 
@@ -84,13 +85,13 @@ good : (f : ℕ) (s : List ℕ) (p : ℕ) → p ≤ length s → length s - p < 
 good zero s p h l = absurd (not-suc-le-zero l)
 good (suc f) s p h l = rw (stream_turn s p h) (by (token_at s p) refl (stop-good s p h) (good f s))
   where
-    by : (t : Token) → token_at s p ≡ t → Stops p (length s) t → ((e : ℕ) → e ≤ length s → length s - e < f → Good e (length s) (stream s e)) →
+    by : (t : Result Token Refusal) → token_at s p ≡ t → Stops p (length s) t → ((e : ℕ) → e ≤ length s → length s - e < f → Good e (length s) (stream s e)) →
         Good p (length s) (onward s t (stream s))
-    by (Got k b e x) q g ih =
-        let (u, v, w) = onwards s p k b e x h q in
-        let (r, z) = ih e w (omega arith) in
+    by (Ok tok) q g ih =
+        let (u, v, w) = onwards s p tok.kind tok.start tok.end tok.long h q in
+        let (r, z) = ih tok.end w (omega arith) in
         ((u, v, r), z)
-    by (Stop n r) q g ih = g
+    by (Err why) q g ih = g
 
 -- THE PLACES RISE
 pub rises : (s : List ℕ) → Rises 0 (stream s 0).toks (stream s 0).place

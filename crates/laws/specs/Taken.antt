@@ -1,12 +1,12 @@
 -- The words in which the laws speak of a text: what it is read as, its tokens with the terminals that take them, the time scale in force,
 -- the keywords of its cells and entries; and what may be amiss with a token that the grammar takes (refusals 6 to 9).
 -- Assumes nothing.
-use Rattle.std.specs.Prelude.{◌≡◌, refl, Bool, true, false, List, [], ◌∷◌, ◌++◌, ℕ, ◌+◌, ◌-◌, ◌≤◌, ℤ, length}
+use Rattle.std.specs.Prelude.{◌≡◌, refl, Bool, true, false, List, [], ◌∷◌, ◌++◌, ℕ, ◌+◌, ◌-◌, ◌≤◌, ℤ, length, Ok, Err}
 use Rattle.classes.specs.Choice.{pick}
 use Rattle.tokens.specs.Stream.{Placed}
 use Rattle.words.specs.Words.{scale_of, unit_of}
 use Rattle.numbershape.specs.Value.{number_of}
-use Rattle.numbershape.specs.declared.Number.TheVariants.{Time, Fine, Beyond}
+use Rattle.numbershape.specs.declared.NotTime.TheVariants.{Fine, Beyond}
 use Rattle.grammar.specs.Ll.{Derives}
 use Rattle.grammar.specs.Machine.{Res, judges}
 use Rattle.grammar.specs.Grammar.{Act, note, divide, scaled, unity, joined, cell, entry, time, Term, alts, fits, file, one_cell_of}
@@ -119,7 +119,7 @@ entry_words xs = those opens_entry xs
 
 -- 'A time is the exact product in femtoseconds: whole, and at most 10^15 either way.' Here with a scale of 10 ^ u
 abbrev pub Timely : ℕ → Taken → Type 0
-Timely u x = (s : Bool) (k : ℕ) → x.by.act ≡ time s k → (z : ℤ) × (number_of s u x.tok.bytes ≡ Time z)
+Timely u x = (s : Bool) (k : ℕ) → x.by.act ≡ time s k → (z : ℤ) × (number_of s u x.tok.bytes ≡ Ok z)
 
 -- no 'word or string content over 1,024 bytes as written'
 abbrev pub Short : Taken → Type 0
@@ -128,10 +128,10 @@ Short x = overlong x.by.cls x.tok ≡ false
 -- WHAT MAY BE AMISS with a token x that the grammar takes, behind such tokens: the number of the refusal
 pub data Amiss (unit cell_room item_room : ℕ) (before : List Taken) (x : Taken) : ℕ → Type 0 where
   -- 6: 'time not a whole femtosecond'
-  broken : (s : Bool) (k : ℕ) → x.by.act ≡ time s k → number_of s (scale_behind unit before) x.tok.bytes ≡ Fine →
+  broken : (s : Bool) (k : ℕ) → x.by.act ≡ time s k → number_of s (scale_behind unit before) x.tok.bytes ≡ Err Fine →
       Amiss unit cell_room item_room before x 6
   -- 7: 'whole, but beyond 10^15'
-  beyond : (s : Bool) (k : ℕ) → x.by.act ≡ time s k → number_of s (scale_behind unit before) x.tok.bytes ≡ Beyond →
+  beyond : (s : Bool) (k : ℕ) → x.by.act ≡ time s k → number_of s (scale_behind unit before) x.tok.bytes ≡ Err Beyond →
       Amiss unit cell_room item_room before x 7
   -- 8: 'word or string content over 1,024 bytes as written'
   long : overlong x.by.cls x.tok ≡ true → Amiss unit cell_room item_room before x 8

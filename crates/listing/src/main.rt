@@ -4,7 +4,6 @@
 
 ghost use Rattle.std.specs.Prelude.{◌+◌, ◌*◌, ◌≤◌, length};
 
-use readcells::Answer;
 use reader::read_file;
 use std::io;
 use std::io::{Read, Write};
@@ -261,15 +260,11 @@ fn list<W: Write>(out: &mut W, text: &[u8]) -> io::Result<()> {
     let mut cells = [0u64; 448];
     let mut entries = [0u64; 7168];
     let read = read_file(text, &mut cells, &mut entries);
-    let answer = read.answer;
-    match answer {
-        Answer::Refused { number, place } => print_refusal(out, number, place),
-        Answer::Read {
-            cells: n,
-            entries: m,
-        } => {
-            print_counts(out, n, m)?;
-            print_cells(out, text, &cells, &entries, n, m)
+    match read.answer {
+        Err(refusal) => print_refusal(out, refusal.number, refusal.place),
+        Ok(counts) => {
+            print_counts(out, counts.cells, counts.entries)?;
+            print_cells(out, text, &cells, &entries, counts.cells, counts.entries)
         }
     }
 }

@@ -1,6 +1,6 @@
 -- One turn of each loop that marks arcs or seats them.
 -- Assumes nothing.
-use Rattle.std.specs.Prelude.{ℕ, zero, suc, ◌+◌, ◌*◌, ◌/◌, ◌%◌, ◌<◌, ◌≡◌, Bool, List, [], ◌∷◌, ◌++◌, length, get_or, set}
+use Rattle.std.specs.Prelude.{ℕ, zero, suc, ◌+◌, ◌*◌, ◌/◌, ◌%◌, ◌<◌, ◌≡◌, Bool, List, [], ◌∷◌, ◌++◌, length, get_or, set, Some, None}
 use Rattle.std.proofs.Math.Path.{refl}
 use Rattle.std.proofs.Common.{sym, ap, ◌∙◌, arith, length-set, length-append, eqb-true, ne_eqb}
 use Rattle.std.proofs.Math.Bool.{true, false}
@@ -11,7 +11,6 @@ use Rattle.std.proofs.lemmas.Bool.{eqb-false}
 use Rattle.wire.specs.Wire.{Bytes}
 use Rattle.sheetlaws.specs.Sheet.{place}
 use Rattle.meant.specs.Find.{ArcsGood}
-use Rattle.meant.specs.FoundType.TheVariants.{At, Nothing}
 use Rattle.grammar.specs.declared.Entry.{Entry}
 use Rattle.views.specs.Views.{head_at}
 use Rattle.history.proofs.EventLaws.{clash}
@@ -59,17 +58,17 @@ kept_same bits bits' e q t = rw e t
 module _ (b text : List ℕ) (slash : Bool) (n m f : ℕ) (h : Entry) (p : ℕ) (type : List ℕ) (bytes : Bytes b) (good : ArcsGood b m f)
     (named : h.kind ≡ 4 → ⊥) where
   -- an arc that the entry means is the one that a search finds
-  only : (j : ℕ) → j < m → meant_for b text slash n h (One p) type (place b j f) ≡ true → arc_of b text slash m f h p ≡ At (place b j f)
+  only : (j : ℕ) → j < m → meant_for b text slash n h (One p) type (place b j f) ≡ true → arc_of b text slash m f h p ≡ Some (place b j f)
   only = meant-found b text slash n m f h p bytes good (ne_eqb _ _ named) type
 
-  pub found-marked : (q : ℕ) (old now : List ℕ) → length old ≡ 131072 → arc_of b text slash m f h p ≡ At q → now ≡ set old ((q / 128) % 131072) 1
+  pub found-marked : (q : ℕ) (old now : List ℕ) → length old ≡ 131072 → arc_of b text slash m f h p ≡ Some q → now ≡ set old ((q / 128) % 131072) 1
       → EntryMarked b text slash n m f h (One p) type now
   found-marked q old now long e is j l t =
       let d = only j l t in
       let z : place b j f ≡ q = cc in
       rw z (mark_own old q now long is)
 
-  pub absent_marked : (bits : List ℕ) → arc_of b text slash m f h p ≡ Nothing → EntryMarked b text slash n m f h (One p) type bits
+  pub absent_marked : (bits : List ℕ) → arc_of b text slash m f h p ≡ None → EntryMarked b text slash n m f h (One p) type bits
   absent_marked bits e j l t =
       let d = only j l t in
       let z : ◌≡◌ {A = ℕ} 0 1 = cc in

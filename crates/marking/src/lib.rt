@@ -2,8 +2,7 @@
 // longest sheet, so that no two arcs share one.
 #![tactic(auto)]
 
-ghost use Rattle.std.specs.Prelude.{◌≡◌, ◌+◌, ◌*◌, ◌/◌, ◌%◌, ◌≤◌, ◌<◌, length, set};
-ghost use Rattle.classes.specs.Choice.{pick};
+ghost use Rattle.std.specs.Prelude.{◌≡◌, ℕ, List, ◌+◌, ◌*◌, ◌/◌, ◌%◌, ◌≤◌, ◌<◌, length, set};
 ghost use Rattle.sheetlaws.specs.Sheet.{in_end};
 ghost use Rattle.meant.specs.Find.{ArcsGood, ArcSearch, InstanceSearch};
 ghost use Rattle.meant.specs.Whom.{InSheet};
@@ -11,10 +10,10 @@ ghost use Rattle.meant.specs.WhomType.TheVariants.{One};
 ghost use Rattle.marking.specs.Choosing.{marked, Kept, EntryMarked, EntriesMarked};
 
 use grammar::Entry;
-use meant::entryarcs::Plan;
+use meant::entryarcs::{Plan, Start};
 use meant::meaning::Whom;
-use meant::sheet::Found;
-use meant::{entryarcs, sheetrecords};
+use meant::sheetrecords::Arc;
+use meant::{Asked, entryarcs};
 
 const DEVICE: u8 = 4;
 
@@ -41,128 +40,99 @@ pub fn is_marked(bits: &[u8], arc: usize) -> bool
 }
 
 // Marks the arc that an entry other than DEVICE means in the instance at a place.
-fn mark_found<'a>(
+fn mark_found(
     start: &[u8],
-    file: &'a [u8],
-    incoming: &'a [u8],
-    side: bool,
+    text: &[u8],
     plan: Plan,
     marks: &[u32; 4096],
     entry: Entry,
     instance: usize,
-    celltype: &[u8],
     bits: &mut [u8],
 )
     requires { (ArcSearch start.now plan.arcs plan.first marks.now) × (in_end start.now instance ≤ length start.now)
         × (entry.kind ≡ 4 → ⊥) × (length bits.old ≡ 131072) }
     ensures { (length bits.new ≡ 131072) × (Kept bits.old bits.new)
-        × EntryMarked start.now (pick side incoming.now file.now) plan.slash plan.instances plan.arcs plan.first
-        entry (One instance) celltype.now bits.new }
+        × ((type : List ℕ) → EntryMarked start.now text.now plan.slash plan.instances plan.arcs plan.first entry (One instance) type bits.new) }
 {
-    let text = meant::text_of(file, incoming, side);
-    let found = entryarcs::arc_of(start, text, plan, entry, marks, instance);
-    match found {
-        Found::At(arc) => mark(bits, arc),
-        Found::Nothing => {}
+    let start = Start {
+        sheet: start,
+        plan,
+        marks,
+    };
+    if let Some(arc) = entryarcs::arc_of(start, text, entry, instance) {
+        mark(bits, arc);
     }
 }
 
 // Marks the arcs that an entry means: each is asked.
-fn mark_meant<'a>(
-    start: &[u8],
-    file: &'a [u8],
-    incoming: &'a [u8],
-    side: bool,
-    plan: Plan,
-    places: &[u32; 4096],
-    entry: Entry,
-    whom: Whom,
-    celltype: &[u8],
-    bits: &mut [u8],
-)
-    requires { (InstanceSearch start.now plan.instances 12 places.now) × (ArcsGood start.now plan.arcs plan.first) × (InSheet start.now whom)
+fn mark_meant<'a>(asked: Asked<'a>, entry: Entry, bits: &mut [u8])
+    requires { (InstanceSearch asked.searched.start.now asked.searched.plan.instances 12 asked.searched.places.now)
+        × (ArcsGood asked.searched.start.now asked.searched.plan.arcs asked.searched.plan.first) × (InSheet asked.searched.start.now asked.whom)
         × (length bits.old ≡ 131072) }
-    ensures { (length bits.new ≡ 131072) × (Kept bits.old bits.new)
-        × EntryMarked start.now (pick side incoming.now file.now) plan.slash plan.instances plan.arcs plan.first
-        entry whom celltype.now bits.new }
+    ensures { let a = asked.entry in let s = a.searched in (length bits.new ≡ 131072) × (Kept bits.old bits.new)
+        × EntryMarked s.start.now a.text.now s.plan.slash s.plan.instances s.plan.arcs s.plan.first
+        entry a.whom a.celltype.now bits.new }
 {
-    let mut j = 0;
-    let mut here = plan.first;
-    while j < plan.arcs {
-        if meant::is_meant(
-            start, file, incoming, side, plan, places, entry, whom, celltype, here,
-        ) {
+    let mut here = asked.searched.plan.first;
+    for j in 0..asked.searched.plan.arcs {
+        if meant::is_meant(asked, entry, here) {
             mark(bits, here);
         }
-        here = sheetrecords::next_arc(start, here);
-        j += 1;
+        here = Arc {
+            sheet: asked.searched.start,
+            place: here,
+        }
+        .next();
     }
 }
 
 // Marks the arcs that an entry means, by search where it names one.
-fn mark_entry<'a>(
-    start: &[u8],
-    file: &'a [u8],
-    incoming: &'a [u8],
-    side: bool,
-    plan: Plan,
-    places: &[u32; 4096],
-    marks: &[u32; 4096],
-    entry: Entry,
-    whom: Whom,
-    celltype: &[u8],
-    bits: &mut [u8],
-)
-    requires { (InstanceSearch start.now plan.instances 12 places.now) × (ArcSearch start.now plan.arcs plan.first marks.now)
-        × (InSheet start.now whom) × (length bits.old ≡ 131072) }
-    ensures { (length bits.new ≡ 131072) × (Kept bits.old bits.new)
-        × EntryMarked start.now (pick side incoming.now file.now) plan.slash plan.instances plan.arcs plan.first
-        entry whom celltype.now bits.new }
+fn mark_entry<'a>(asked: Asked<'a>, entry: Entry, bits: &mut [u8])
+    requires { (InstanceSearch asked.searched.start.now asked.searched.plan.instances 12 asked.searched.places.now)
+        × (ArcSearch asked.searched.start.now asked.searched.plan.arcs asked.searched.plan.first asked.searched.marks.now)
+        × (InSheet asked.searched.start.now asked.whom) × (length bits.old ≡ 131072) }
+    ensures { let a = asked.entry in let s = a.searched in (length bits.new ≡ 131072) × (Kept bits.old bits.new)
+        × EntryMarked s.start.now a.text.now s.plan.slash s.plan.instances s.plan.arcs s.plan.first
+        entry a.whom a.celltype.now bits.new }
 {
     if entry.kind != DEVICE {
-        if let Whom::One(instance) = whom {
+        if let Whom::One(instance) = asked.whom {
+            let sheet = asked.searched;
             mark_found(
-                start, file, incoming, side, plan, marks, entry, instance, celltype, bits,
+                sheet.start,
+                asked.text,
+                sheet.plan,
+                sheet.marks,
+                entry,
+                instance,
+                bits,
             );
             return;
         }
     }
-    mark_meant(
-        start, file, incoming, side, plan, places, entry, whom, celltype, bits,
-    );
+    mark_meant(asked, entry, bits);
 }
 
 // Marks the arcs that the entries of one cell mean.
 pub fn mark_entries<'a>(
-    start: &[u8],
-    file: &'a [u8],
-    incoming: &'a [u8],
-    side: bool,
-    plan: Plan,
-    places: &[u32; 4096],
-    marks: &[u32; 4096],
+    asked: Asked<'a>,
     entries: &[u64],
     first: usize,
     some: usize,
-    whom: Whom,
-    celltype: &[u8],
     bits: &mut [u8],
 )
-    requires { (InstanceSearch start.now plan.instances 12 places.now) × (ArcSearch start.now plan.arcs plan.first marks.now)
-        × (InSheet start.now whom) × (28 * (first + some) ≤ length entries.now) × (length bits.old ≡ 131072) }
-    ensures { (length bits.new ≡ 131072) × (Kept bits.old bits.new)
-        × EntriesMarked start.now (pick side incoming.now file.now) plan.slash plan.instances plan.arcs plan.first
-        entries.now first some whom celltype.now bits.new }
+    requires { (InstanceSearch asked.searched.start.now asked.searched.plan.instances 12 asked.searched.places.now)
+        × (ArcSearch asked.searched.start.now asked.searched.plan.arcs asked.searched.plan.first asked.searched.marks.now)
+        × (InSheet asked.searched.start.now asked.whom) × (28 * (first + some) ≤ length entries.now) × (length bits.old ≡ 131072) }
+    ensures { let a = asked.entry in let s = a.searched in (length bits.new ≡ 131072) × (Kept bits.old bits.new)
+        × EntriesMarked s.start.now a.text.now s.plan.slash s.plan.instances s.plan.arcs s.plan.first
+        entries.now first some a.whom a.celltype.now bits.new }
 {
-    if let Whom::Nobody(number) = whom {
+    if let Whom::Nobody(number) = asked.whom {
         return;
     }
-    let mut k = 0;
-    while k < some {
+    for k in 0..some {
         let entry = views::head_at(entries, 28 * (first + k));
-        mark_entry(
-            start, file, incoming, side, plan, places, marks, entry, whom, celltype, bits,
-        );
-        k += 1;
+        mark_entry(asked, entry, bits);
     }
 }

@@ -2,8 +2,7 @@
 -- Assumes nothing.
 use Rattle.std.specs.Prelude.{ℕ, ◌+◌, ◌*◌, ◌<◌, ◌≡◌, Bool, List, [], map, ◌++◌, eqb, length, get_or}
 use Rattle.wire.specs.Wire.{Bytes}
-use Rattle.sheetparts.specs.Form.{check_of}
-use Rattle.sheetparts.specs.declared.SheetCheck.TheVariants.{Good}
+use Rattle.sheetparts.specs.Form.{Good, check_of}
 use Rattle.grammar.specs.Meaning.{Item, no_head}
 use Rattle.entryarcs.specs.Sound.{Each, SoundItem}
 use Rattle.views.specs.Views.{head_at}

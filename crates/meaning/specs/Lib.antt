@@ -10,7 +10,6 @@ pub use Rattle.entryarcs.specs.Sound
 pub use Rattle.entryarcs.specs.Find
 pub use Rattle.entryarcs.specs.Same
 pub use Rattle.entryarcs.specs.Search
-pub use Rattle.entryarcs.specs.FoundType
 pub use Rattle.entryarcs.specs.SlotArcs
 pub use Rattle.entryarcs.specs.Current
 pub use Rattle.entryarcs.specs.FoundSlots

@@ -1,6 +1,6 @@
 -- Which instances a cell's entries apply to.
 -- Assumes nothing.
-use Rattle.std.specs.Prelude.{ℕ, ◌<◌, ◌≤◌, ◌≡◌, Bool, true, List, eqb, length}
+use Rattle.std.specs.Prelude.{ℕ, ◌<◌, ◌≤◌, ◌≡◌, Bool, true, List, eqb, length, Option, Some, None}
 use Rattle.std.proofs.Common.{arith}
 use Rattle.classes.specs.Choice.{pick}
 use Rattle.names.specs.Order.{same_text}
@@ -9,16 +9,14 @@ use Rattle.grammar.specs.declared.Cell as read
 use Rattle.sheetparts.specs.Form.{path_at, type_at}
 use Rattle.sheetlaws.specs.Sheet.{in_end, nth}
 use Rattle.entryarcs.specs.Find.{find_instance, InsGood, instance-found, in_there}
-use Rattle.entryarcs.specs.FoundType.{Found}
-use Rattle.entryarcs.specs.FoundType.TheVariants.{At, Nothing}
 use Rattle.history.specs.Sheet.{Cell, at, every}
 use Rattle.meaning.specs.declared.Whom.{Whom}
 use Rattle.meaning.specs.declared.Whom.TheVariants.{One, Every, Nobody}
 
 -- '12 no such instance', '13 type differs'
-unfoldable pub typed_as : List ℕ → List ℕ → Found → Whom
-typed_as b type Nothing = Nobody 12
-typed_as b type (At p) = pick (same_text (type_at b p) type) (One p) (Nobody 13)
+unfoldable pub typed_as : List ℕ → List ℕ → Option ℕ → Whom
+typed_as b type None = Nobody 12
+typed_as b type (Some p) = pick (same_text (type_at b p) type) (One p) (Nobody 13)
 
 unfoldable pub whom_of : (b text : List ℕ) (slash : Bool) (n : ℕ) → read.Cell → Whom
 whom_of b text slash n c =
@@ -39,7 +37,7 @@ For b n Every c = c.part ≡ every
 For b n (Nobody x) c = ⊥
 
 -- an instance that was found stands on the sheet
-pub in_sheet : (b path : List ℕ) (n p : ℕ) → InsGood b n 12 → find_instance b path n 12 ≡ At p → in_end b p ≤ length b
+pub in_sheet : (b path : List ℕ) (n p : ℕ) → InsGood b n 12 → find_instance b path n 12 ≡ Some p → in_end b p ≤ length b
 in_sheet b path n p g e = let f = instance-found b path n 12 p e in rw f.2 (in_there b f.0 n 12 f.1 g).1
 
 -- one or every is not nobody

@@ -6,7 +6,7 @@ ghost use Rattle.entryarcs.specs.Find.{InstanceSearch};
 ghost use Rattle.meaning.specs.Whom.{whom_of, InSheet};
 
 use entryarcs::Plan;
-use entryarcs::sheet::Found;
+use entryarcs::sheetrecords::Instance;
 use grammar::Cell;
 
 // What stands below, for the crates above.
@@ -38,10 +38,17 @@ pub fn whom_of(start: &[u8], text: &[u8], plan: Plan, marks: &[u32; 4096], cell:
     let path = names::part_of(text, cell.pathfrom, cell.pathto);
     let found = sheet::find_instance(start, plan.instances, 12, marks, path, plan.slash);
     match found {
-        Found::Nothing => Whom::Nobody(12),
-        Found::At(instance) => {
+        None => Whom::Nobody(12),
+        Some(instance) => {
             let celltype = names::part_of(text, cell.typefrom, cell.typeto);
-            if names::same_text(sheetrecords::instance_type(start, instance), celltype) {
+            if names::same_text(
+                Instance {
+                    sheet: start,
+                    place: instance,
+                }
+                .type_name(),
+                celltype,
+            ) {
                 return Whom::One(instance);
             }
             Whom::Nobody(13)

@@ -6,7 +6,6 @@ pub use Rattle.meaning.specs.Sound
 pub use Rattle.meaning.specs.Find
 pub use Rattle.meaning.specs.Same
 pub use Rattle.meaning.specs.Search
-pub use Rattle.meaning.specs.FoundType
 pub use Rattle.meaning.specs.SlotArcs
 pub use Rattle.meaning.specs.Current
 pub use Rattle.meaning.specs.FoundSlots

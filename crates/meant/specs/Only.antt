@@ -1,7 +1,7 @@
 -- The only instance in which an entry can mean an arc: its path is a front part of the arc's own end.
 -- Assumes nothing.
 use Prim.Native.Nat.{ℕ, ◌+◌, ◌-◌, ◌<◌}
-use Rattle.std.specs.Prelude.{◌≡◌, Bool, false, eqb, length, take}
+use Rattle.std.specs.Prelude.{◌≡◌, Bool, false, eqb, length, take, Some, None}
 use Rattle.std.proofs.Math.Path.{refl}
 use Rattle.std.proofs.Common.{sym, ap, ◌∙◌, arith, length-append, length-drop, take_at, eqb-true, eq-eqb}
 use Rattle.std.proofs.Math.Bool.{true}
@@ -16,7 +16,6 @@ use Rattle.sheetparts.specs.Form.{Key, key_at, path_at, type_at, cmp_key}
 use Rattle.sheetlaws.specs.Sheet.{in_end, nth}
 use Rattle.meaning.specs.Search.{search-more, finger}
 use Rattle.meaning.specs.Find.{wanted, key-same, find_instance, instance-found, InsGood, ins_rise}
-use Rattle.meaning.specs.FoundType.TheVariants.{At, Nothing}
 use Rattle.history.proofs.EventLaws.{clash}
 use Rattle.meaning.specs.Bytes.{device_hit}
 use Rattle.meaning.specs.Below.{not_so, below_none, below-some, some_any}
@@ -84,7 +83,7 @@ module _ (b text : List ℕ) (slash : Bool) (h : Entry) (q : ℕ) where
 
 -- instances rise by their paths, so the search finds instance number k by its path
 instance-is : (b path : List ℕ) (n k : ℕ) → InsGood b n 12 → k < n → path_at b (nth (in_end b) k 12) ≡ path
-    → find_instance b path n 12 ≡ At (nth (in_end b) k 12)
+    → find_instance b path n 12 ≡ Some (nth (in_end b) k 12)
 unfolding find_instance
 instance-is b path n k good l e =
     let same : cmp (path_at b (nth (in_end b) k 12)) path ≡ 1 = rw e (cmp_order.self path) in
@@ -103,7 +102,7 @@ module _ (b text : List ℕ) (slash : Bool) (h : Entry) (n : ℕ) (good : InsGoo
   -- what instance number k has to be
   hit-is : (k : ℕ) → k < n → hit k ≡ true
       → (same_text (type_at b (nth (in_end b) k 12)) type ≡ true) × (meant_in b text slash h (nth (in_end b) k 12) q ≡ true)
-      × (path_at b (nth (in_end b) k 12) ≡ path) × (find_instance b path n 12 ≡ At (nth (in_end b) k 12))
+      × (path_at b (nth (in_end b) k 12) ≡ path) × (find_instance b path n 12 ≡ Some (nth (in_end b) k 12))
   hit-is k l e =
       let w = both (same_text (type_at b (nth (in_end b) k 12)) type) _ e in
       let x = only-path b text slash h q (nth (in_end b) k 12) w.1 in
@@ -118,12 +117,12 @@ module _ (b text : List ℕ) (slash : Bool) (h : Entry) (n : ℕ) (good : InsGoo
   every-not m = no_hit (λ k l e. let w = hit-is k l e in clash (m (nth (in_end b) k 12) w.2 ∙ w.1))
 
   -- no instance has it
-  pub every_absent : find_instance b path n 12 ≡ Nothing → meant_every b text slash h n type q ≡ false
+  pub every_absent : find_instance b path n 12 ≡ None → meant_every b text slash h n type q ≡ false
   every_absent z =
       no_hit (λ k l e. let w = sym z ∙ (hit-is k l e).3 in let y : ◌≡◌ {A = ℕ} 0 1 = cc in omega arith)
 
   -- the instance at p has it
-  pub every-found : (p : ℕ) → MeantOn b text slash h path q true → find_instance b path n 12 ≡ At p
+  pub every-found : (p : ℕ) → MeantOn b text slash h path q true → find_instance b path n 12 ≡ Some p
       → meant_every b text slash h n type q ≡ same_text (type_at b p) type
   unfolding meant_every
   every-found p m z = by (same_text (type_at b p) type) refl

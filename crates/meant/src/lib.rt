@@ -1,9 +1,7 @@
-// Whether an entry of one of two texts, the old file and the incoming cell, means an arc: asked of the arc. `side` tells which text a table
-// belongs to: false the file, true the incoming cell.
+// Whether an entry of a text, the old file's or the incoming cell's, means an arc: asked of the arc.
 #![tactic(auto)]
 
 ghost use Rattle.std.specs.Prelude.{◌≡◌, ◌≤◌, ◌<◌, length};
-ghost use Rattle.classes.specs.Choice.{pick};
 ghost use Rattle.sheetlaws.specs.Sheet.{in_end, ar_next};
 ghost use Rattle.meaning.specs.Find.{InstanceSearch};
 ghost use Rattle.meaning.specs.Whom.{InSheet};
@@ -14,11 +12,30 @@ ghost use Rattle.meant.specs.Touch.{meant_for};
 use grammar::Entry;
 use meaning::Whom;
 use meaning::entryarcs::Plan;
-use meaning::sheet::Found;
+use meaning::sheet::ArcKey;
+use meaning::sheetrecords::{Arc, Instance};
 
 // What stands below, for the crates above.
 pub use meaning;
 pub use meaning::{amounts, entryarcs, sheet, sheetrecords};
+
+// The starting sheet, and what its records are found by: the plan, a table of its instances and one of its arcs.
+#[derive(Clone, Copy)]
+pub struct Searched<'a> {
+    pub start: &'a [u8],
+    pub plan: Plan,
+    pub places: &'a [u32; 4096],
+    pub marks: &'a [u32; 4096],
+}
+
+// A cell whose entries are asked which arcs they mean: the sheet, the cell's text, whom it applies to, and its type there.
+#[derive(Clone, Copy)]
+pub struct Asked<'a> {
+    pub searched: Searched<'a>,
+    pub text: &'a [u8],
+    pub whom: Whom,
+    pub celltype: &'a [u8],
+}
 
 const IOPATH: u8 = 1;
 
@@ -28,71 +45,55 @@ const SAME: u8 = 1;
 
 const INSTANCES: usize = 12;
 
-// One of the two texts.
-pub fn text_of<'a>(file: &'a [u8], incoming: &'a [u8], side: bool) -> &'a [u8]
-    ensures { result.now ≡ pick side incoming.now file.now }
-{
-    if side {
-        return incoming;
-    }
-    file
-}
-
 // Whether an entry means the arc at a place, in the instance with a path.
-fn meant_on<'a>(
-    start: &[u8],
-    file: &'a [u8],
-    incoming: &'a [u8],
-    side: bool,
-    slash: bool,
-    entry: Entry,
-    path: &[u8],
-    arc: usize,
-) -> bool
-    requires { ar_next start.now arc ≤ length start.now }
-    ensures { MeantOn start.now (pick side incoming.now file.now) slash entry path.now arc result }
+fn meant_on(text: &[u8], slash: bool, entry: Entry, path: &[u8], arc: Arc) -> bool
+    ensures { MeantOn arc.entry.sheet.now text.now slash entry path.now arc.entry.place result }
 {
-    let name = names::name_of(file, incoming, side, entry.from1, entry.to1);
+    let name = names::part_of(text, entry.from1, entry.to1);
     if entry.kind == DEVICE {
-        if sheetrecords::arc_kind(start, arc) != IOPATH {
+        if arc.kind() != IOPATH {
             return false;
         }
-        let end = sheetrecords::second_end(start, arc);
+        let end = arc.second_end();
         if entry.to1 == 0 {
             return names::one_below(path, end);
         }
         return names::cmp_full(end, path, name, slash) == SAME;
     }
-    let name2 = names::name_of(file, incoming, side, entry.from2, entry.to2);
-    sheet::key_vs(
-        start,
-        arc,
-        entry.kind,
-        entry.edge1,
-        entry.edge2,
+    let key = ArcKey {
+        kind: entry.kind,
+        edge: entry.edge1,
+        edge2: entry.edge2,
         path,
         name,
-        name2,
+        name2: names::part_of(text, entry.from2, entry.to2),
         slash,
-    ) == SAME
+    };
+    sheet::key_vs(arc, key) == SAME
 }
 
 // Whether it means that arc, in the instance at another place.
-fn meant_in<'a>(
+fn meant_in(
     start: &[u8],
-    file: &'a [u8],
-    incoming: &'a [u8],
-    side: bool,
+    text: &[u8],
     slash: bool,
     entry: Entry,
     instance: usize,
     arc: usize,
 ) -> bool
     requires { (in_end start.now instance ≤ length start.now) × (ar_next start.now arc ≤ length start.now) }
-    ensures { result ≡ meant_in start.now (pick side incoming.now file.now) slash entry instance arc }
+    ensures { result ≡ meant_in start.now text.now slash entry instance arc }
 {
-    let path = sheetrecords::instance_path(start, instance);
-    meant_on(start, file, incoming, side, slash, entry, path, arc)
+    let path = Instance {
+        sheet: start,
+        place: instance,
+    }
+    .path();
+    let arc = Arc {
+        sheet: start,
+        place: arc,
+    };
+    meant_on(text, slash, entry, path, arc)
 }
 
 // An end without a name of so many bytes and the `.` before it; nothing is left of one that is not longer.
@@ -107,14 +108,13 @@ fn path_before(end: &[u8], count: usize) -> &[u8]
 }
 
 // The only path that an instance can have in which the entry, whose first name has so many bytes, means the arc: a front part of the arc's end.
-fn only_path(start: &[u8], entry: Entry, count: usize, arc: usize) -> &[u8]
-    requires { ar_next start.now arc ≤ length start.now }
-    ensures { result.now ≡ only_path start.now entry count arc }
+fn only_path<'a>(arc: Arc<'a>, entry: Entry, count: usize) -> &'a [u8]
+    ensures { result.now ≡ only_path arc.entry.sheet.now entry count arc.entry.place }
 {
     if entry.kind != DEVICE {
-        return path_before(sheetrecords::first_end(start, arc), count);
+        return path_before(arc.first_end(), count);
     }
-    let end = sheetrecords::second_end(start, arc);
+    let end = arc.second_end();
     if entry.to1 == 0 {
         return path_before(end, end.len() - names::last_component(end));
     }
@@ -122,11 +122,9 @@ fn only_path(start: &[u8], entry: Entry, count: usize, arc: usize) -> &[u8]
 }
 
 // Whether it means that arc in some instance of a type: only one can have the path.
-fn meant_every<'a>(
+fn meant_every(
     start: &[u8],
-    file: &'a [u8],
-    incoming: &'a [u8],
-    side: bool,
+    text: &[u8],
     plan: Plan,
     places: &[u32; 4096],
     entry: Entry,
@@ -134,47 +132,57 @@ fn meant_every<'a>(
     arc: usize,
 ) -> bool
     requires { (InstanceSearch start.now plan.instances 12 places.now) × (ar_next start.now arc ≤ length start.now) }
-    ensures { result ≡ meant_every start.now (pick side incoming.now file.now) plan.slash entry plan.instances
+    ensures { result ≡ meant_every start.now text.now plan.slash entry plan.instances
         celltype.now arc }
 {
-    let written = names::name_of(file, incoming, side, entry.from1, entry.to1);
-    let path = only_path(start, entry, written.len(), arc);
-    if !meant_on(start, file, incoming, side, plan.slash, entry, path, arc) {
+    let written = names::part_of(text, entry.from1, entry.to1);
+    let arc = Arc {
+        sheet: start,
+        place: arc,
+    };
+    let path = only_path(arc, entry, written.len());
+    if !meant_on(text, plan.slash, entry, path, arc) {
         return false;
     }
     let found = sheet::find_instance(start, plan.instances, INSTANCES, places, path, false);
     match found {
-        Found::Nothing => false,
-        Found::At(instance) => names::same_text(
-            sheetrecords::instance_type(start, instance),
+        None => false,
+        Some(instance) => names::same_text(
+            Instance {
+                sheet: start,
+                place: instance,
+            }
+            .type_name(),
             celltype,
         ),
     }
 }
 
 // Whether it means that arc in one of the instances that its cell applies to.
-pub fn is_meant<'a>(
-    start: &[u8],
-    file: &'a [u8],
-    incoming: &'a [u8],
-    side: bool,
-    plan: Plan,
-    places: &[u32; 4096],
-    entry: Entry,
-    whom: Whom,
-    celltype: &[u8],
-    arc: usize,
-) -> bool
-    requires { (InstanceSearch start.now plan.instances 12 places.now) × (ar_next start.now arc ≤ length start.now) × InSheet start.now whom }
-    ensures { result ≡ meant_for start.now (pick side incoming.now file.now) plan.slash plan.instances entry whom
-        celltype.now arc }
+pub fn is_meant<'a>(asked: Asked<'a>, entry: Entry, arc: usize) -> bool
+    requires { (InstanceSearch asked.searched.start.now asked.searched.plan.instances 12 asked.searched.places.now)
+        × (ar_next asked.searched.start.now arc ≤ length asked.searched.start.now) × InSheet asked.searched.start.now asked.whom }
+    ensures { let a = asked.entry in result ≡ meant_for a.searched.start.now a.text.now a.searched.plan.slash a.searched.plan.instances entry a.whom
+        a.celltype.now arc }
 {
-    match whom {
+    let searched = asked.searched;
+    match asked.whom {
         Whom::One(instance) => meant_in(
-            start, file, incoming, side, plan.slash, entry, instance, arc,
+            searched.start,
+            asked.text,
+            searched.plan.slash,
+            entry,
+            instance,
+            arc,
         ),
         Whom::Every => meant_every(
-            start, file, incoming, side, plan, places, entry, celltype, arc,
+            searched.start,
+            asked.text,
+            searched.plan,
+            searched.places,
+            entry,
+            asked.celltype,
+            arc,
         ),
         Whom::Nobody(number) => false,
     }

@@ -2,115 +2,87 @@
 #![tactic(auto)]
 
 ghost use Rattle.std.specs.Prelude.{◌≡◌, false, ◌≤◌, length};
+ghost use Rattle.std.specs.Ordering.{ordering_index};
 ghost use Rattle.names.specs.Order.{cmp_num, cmp, front, same_text};
 ghost use Rattle.names.specs.Name.{turned, canon, full, same_name, start_behind, last_start, one_below, part_of, name_of_it};
 
-// How one thing compares with another.
+use std::cmp::Ordering;
+
+// How one thing compares with another: the numbers of specs/Order.antt.
 const BEFORE: u8 = 0;
 
 const SAME: u8 = 1;
 
 const AFTER: u8 = 2;
 
+fn number_of(order: Ordering) -> u8
+    ensures { result ≡ ordering_index order }
+{
+    match order {
+        Ordering::Less => BEFORE,
+        Ordering::Equal => SAME,
+        Ordering::Greater => AFTER,
+    }
+}
+
+#[tactic(auto, unfolding(crate::specs::Order::cmp_num))]
 pub fn cmp_num(x: u8, y: u8) -> u8
     ensures { result ≡ cmp_num x y }
 {
-    if x < y {
-        return BEFORE;
-    }
-    if y < x {
-        return AFTER;
-    }
-    SAME
+    number_of(x.cmp(&y))
 }
 
 // The order of two texts.
+#[tactic(auto, using(crate::proofs::Compare::cmp_is))]
 pub fn cmp_texts(x: &[u8], y: &[u8]) -> u8
     ensures { result ≡ cmp x.now y.now }
 {
-    let mut i = 0;
-    while i < x.len() {
-        if y.len() <= i {
-            return AFTER;
-        }
-        let c = x[i];
-        let d = y[i];
-        if c < d {
-            return BEFORE;
-        }
-        if d < c {
-            return AFTER;
-        }
-        i += 1;
-    }
-    if i < y.len() {
-        return BEFORE;
-    }
-    SAME
+    number_of(x.cmp(y))
 }
 
 // Whether two texts are the same, byte for byte.
+#[tactic(auto, using(crate::proofs::Compare::same_is), unfolding(crate::specs::Order::same_text))]
 pub fn same_text(x: &[u8], y: &[u8]) -> bool
     ensures { result ≡ same_text x.now y.now }
 {
-    cmp_texts(x, y) == SAME
+    x == y
 }
 
 // x against y as far as y goes.
+#[tactic(auto, using(crate::proofs::Compare::front_is))]
 fn cmp_front(x: &[u8], y: &[u8]) -> u8
     ensures { result ≡ front x.now y.now }
 {
-    let mut i = 0;
-    while i < y.len() {
-        if x.len() <= i {
-            return BEFORE;
-        }
-        let c = x[i];
-        let d = y[i];
-        if c < d {
-            return BEFORE;
-        }
-        if d < c {
-            return AFTER;
-        }
-        i += 1;
-    }
-    SAME
+    let n = x.len().min(y.len());
+    number_of(x[..n].cmp(y))
 }
 
+#[tactic(auto, unfolding(crate::specs::Name::turned))]
 pub fn turn(slash: bool, escaped: bool, byte: u8) -> u8
     ensures { result ≡ turned slash escaped byte }
 {
-    if escaped {
-        return byte;
+    if !escaped && byte == nameshape::divider_of(slash) {
+        b'.'
+    } else {
+        byte
     }
-    if byte == nameshape::divider_of(slash) {
-        return b'.';
-    }
-    byte
 }
 
 // x against the written name as far as that goes.
 fn cmp_front_turned(x: &[u8], name: &[u8], slash: bool) -> u8
     ensures { result ≡ front x.now (canon slash name.now) }
 {
-    let mut i = 0;
     let mut escaped = false;
-    while i < name.len() {
+    for (i, &written) in name.iter().enumerate() {
         if x.len() <= i {
             return BEFORE;
         }
-        let c = x[i];
-        let written = name[i];
         let d = turn(slash, escaped, written);
-        if c < d {
-            return BEFORE;
-        }
-        if d < c {
-            return AFTER;
+        let order = cmp_num(x[i], d);
+        if order != SAME {
+            return order;
         }
         escaped = nameshape::escape(escaped, written);
-        i += 1;
     }
     SAME
 }
@@ -120,9 +92,10 @@ pub fn cmp_front_written(x: &[u8], name: &[u8], slash: bool) -> u8
     ensures { result ≡ front x.now (canon slash name.now) }
 {
     if slash {
-        return cmp_front_turned(x, name, slash);
+        cmp_front_turned(x, name, slash)
+    } else {
+        cmp_front(x, name)
     }
-    cmp_front(x, name)
 }
 
 // The canonical name x against the written name.
@@ -133,10 +106,7 @@ pub fn cmp_written(x: &[u8], name: &[u8], slash: bool) -> u8
     if order != SAME {
         return order;
     }
-    if name.len() < x.len() {
-        return AFTER;
-    }
-    SAME
+    if name.len() < x.len() { AFTER } else { SAME }
 }
 
 // The canonical name x against the full name of the written one in the instance with this path (canonical; empty at the top level).
@@ -154,18 +124,16 @@ pub fn cmp_full(x: &[u8], path: &[u8], name: &[u8], slash: bool) -> u8
     if x.len() <= n {
         return BEFORE;
     }
-    let byte = x[n];
-    if byte < b'.' {
-        return BEFORE;
-    }
-    if b'.' < byte {
-        return AFTER;
+    let by_dot = cmp_num(x[n], b'.');
+    if by_dot != SAME {
+        return by_dot;
     }
     let behind = n + 1;
     cmp_written(&x[behind..], name, slash)
 }
 
 // Whether two canonical names are the same name.
+#[tactic(auto, unfolding(crate::specs::Name::same_name))]
 pub fn same_name(x: &[u8], y: &[u8]) -> bool
     ensures { result ≡ same_name x.now y.now }
 {
@@ -173,30 +141,27 @@ pub fn same_name(x: &[u8], y: &[u8]) -> bool
 }
 
 // Where a component starts, behind one more byte.
+#[tactic(auto, unfolding(crate::specs::Name::start_behind))]
 fn start_behind(escaped: bool, start: usize, next: usize, byte: u8) -> usize
     ensures { result ≡ start_behind escaped start next byte }
 {
-    if escaped {
-        return start;
+    if !escaped && byte == b'.' {
+        next
+    } else {
+        start
     }
-    if byte == b'.' {
-        return next;
-    }
-    start
 }
 
 // Where the last component of a canonical name starts.
+#[tactic(auto, using(crate::specs::Name::start_turn, crate::specs::Name::start_end, crate::specs::Name::start_le), unfolding(crate::specs::Name::last_start))]
 pub fn last_component(name: &[u8]) -> usize
     ensures { (result ≡ last_start name.now) × (result ≤ length name.now) }
 {
     let mut start = 0;
-    let mut i = 0;
     let mut escaped = false;
-    while i < name.len() {
-        let byte = name[i];
+    for (i, &byte) in name.iter().enumerate() {
         start = start_behind(escaped, start, i + 1, byte);
         escaped = nameshape::escape(escaped, byte);
-        i += 1;
     }
     start
 }
@@ -210,19 +175,15 @@ pub fn one_below(path: &[u8], name: &[u8]) -> bool
 }
 
 // The bytes of the text from start up to end; none where they do not lie in it.
+#[tactic(auto, unfolding(crate::specs::Name::part_of))]
 pub fn part_of(text: &[u8], start: usize, end: usize) -> &[u8]
     ensures { result.now ≡ part_of text.now start end }
 {
-    if start <= end {
-        if end <= text.len() {
-            return &text[start..end];
-        }
-        return &text[0..0];
-    }
-    &text[0..0]
+    text.get(start..end).unwrap_or(&[])
 }
 
 // A name's bytes: after a swap they stand in the old file or in the incoming cell.
+#[tactic(auto, unfolding(crate::specs::Name::name_of_it))]
 pub fn name_of<'a>(
     old: &'a [u8],
     incoming: &'a [u8],
@@ -232,8 +193,5 @@ pub fn name_of<'a>(
 ) -> &'a [u8]
     ensures { result.now ≡ name_of_it old.now incoming.now from_incoming start end }
 {
-    if from_incoming {
-        return part_of(incoming, start, end);
-    }
-    part_of(old, start, end)
+    part_of(if from_incoming { incoming } else { old }, start, end)
 }

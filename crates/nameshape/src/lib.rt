@@ -3,7 +3,8 @@
 
 ghost use Rattle.std.specs.Prelude.{◌≡◌, true, false, ◌≤◌, eqb, length};
 ghost use Rattle.classes.specs.Choice.{pick};
-ghost use Rattle.nameshape.specs.Shape.{is_name_byte, is_escapable, escapes, may_follow, divider, body_next, bracket_next, name_next, name_run, plain_run, may_end, is_path, is_port, is_text};
+ghost use Rattle.nameshape.specs.Shape.{is_name_byte, is_escapable, escapes, may_follow, divider, is_path, is_port, is_text};
+ghost use Rattle.nameshape.specs.Shape.{body_next, bracket_next, name_next, name_run, plain_run, may_end};
 
 use classes::{is_digit, is_legal, is_letter, is_within};
 
@@ -29,18 +30,14 @@ const RANGED: u8 = 8; // behind the `]` of `[n:n]`
 pub const WRONG: u8 = 9; // no name goes on like this
 
 // A letter, a digit, `_` or `$`.
+#[tactic(auto, unfolding(crate::specs::Shape::is_name_byte))]
 pub fn is_name_byte(byte: u8) -> bool
     ensures { result ≡ is_name_byte byte }
 {
-    if is_letter(byte) {
-        return true;
-    }
-    if is_digit(byte) {
-        return true;
-    }
-    byte == b'_' || byte == b'$'
+    is_letter(byte) || is_digit(byte) || byte == b'_' || byte == b'$'
 }
 
+#[tactic(auto, unfolding(crate::specs::Shape::is_escapable))]
 fn is_escapable(byte: u8) -> bool
     ensures { result ≡ is_escapable byte }
 {
@@ -48,15 +45,14 @@ fn is_escapable(byte: u8) -> bool
 }
 
 // The byte of the divider: `/` or `.`.
+#[tactic(auto, unfolding(crate::specs::Shape::divider))]
 pub fn divider_of(slash: bool) -> u8
     ensures { result ≡ divider slash }
 {
-    if slash {
-        return b'/';
-    }
-    b'.'
+    if slash { b'/' } else { b'.' }
 }
 
+#[tactic(auto, unfolding(crate::specs::Shape::body_next))]
 fn body_next(slash: bool, state: u8, byte: u8) -> u8
     ensures { result ≡ body_next slash state byte }
 {
@@ -72,100 +68,68 @@ fn body_next(slash: bool, state: u8, byte: u8) -> u8
     if byte == divider_of(slash) {
         return START;
     }
-    if byte == b'[' {
-        return BRACKET;
-    }
-    WRONG
+    if byte == b'[' { BRACKET } else { WRONG }
 }
 
+#[tactic(auto, unfolding(crate::specs::Shape::bracket_next))]
 fn bracket_next(state: u8, byte: u8) -> u8
     ensures { result ≡ bracket_next state byte }
 {
     if is_digit(byte) {
-        if state == BRACKET {
-            return INDEX;
-        }
-        if state == INDEX {
-            return INDEX;
-        }
-        return SECOND;
+        return if matches!(state, BRACKET | INDEX) {
+            INDEX
+        } else {
+            SECOND
+        };
     }
-    if state == INDEX {
-        if byte == b']' {
-            return INDEXED;
-        }
-        if byte == b':' {
-            return COLON;
-        }
-        return WRONG;
+    match (state, byte) {
+        (INDEX, b']') => INDEXED,
+        (INDEX, b':') => COLON,
+        (SECOND, b']') => RANGED,
+        _ => WRONG,
     }
-    if state == SECOND {
-        if byte == b']' {
-            return RANGED;
-        }
-        return WRONG;
-    }
-    WRONG
 }
 
+#[tactic(auto, unfolding(crate::specs::Shape::name_next))]
 fn name_next(slash: bool, state: u8, byte: u8) -> u8
     ensures { result ≡ name_next slash state byte }
 {
-    if state <= BODY {
-        return body_next(slash, state, byte);
+    match state {
+        START | BODY => body_next(slash, state, byte),
+        ESCAPE if is_escapable(byte) => BODY,
+        BRACKET | INDEX | COLON | SECOND => bracket_next(state, byte),
+        INDEXED if byte == divider_of(slash) => START,
+        _ => WRONG,
     }
-    if state == ESCAPE {
-        if is_escapable(byte) {
-            return BODY;
-        }
-        return WRONG;
-    }
-    if state <= SECOND {
-        return bracket_next(state, byte);
-    }
-    if state == INDEXED {
-        if byte == divider_of(slash) {
-            return START;
-        }
-        return WRONG;
-    }
-    WRONG
 }
 
 // How many letters, digits, `_` and `$` a word begins with: most words are nothing else.
 fn plain_run(word: &[u8]) -> usize
     ensures { (result ≡ plain_run word.now) × (result ≤ length word.now) }
 {
-    let mut i = 0;
-    while i < word.len() {
-        if is_name_byte(word[i]) {
-            i += 1;
-        } else {
+    for (i, &byte) in word.iter().enumerate() {
+        if !is_name_byte(byte) {
             return i;
         }
     }
-    i
+    word.len()
 }
 
 // Where a reader stands behind n of them.
 fn state_behind(n: usize) -> u8
     ensures { result ≡ pick (eqb n 0) 0 1 }
 {
-    if n == 0 {
-        return START;
-    }
-    BODY
+    if n == 0 { START } else { BODY }
 }
 
 // Where a reader stands behind a part of a word, who stood there before it.
+#[tactic(auto, using(crate::specs::Shape::run_turn, crate::specs::Shape::run_end))]
 pub fn run_on(part: &[u8], slash: bool, before: u8) -> u8
     ensures { result ≡ name_run slash before part.now }
 {
-    let mut i = 0;
     let mut state = before;
-    while i < part.len() {
-        state = name_next(slash, state, part[i]);
-        i += 1;
+    for &byte in part {
+        state = name_next(slash, state, byte);
     }
     state
 }
@@ -178,22 +142,15 @@ pub fn name_run(word: &[u8], slash: bool) -> u8
     run_on(&word[n..], slash, state_behind(n))
 }
 
+#[tactic(auto, unfolding(crate::specs::Shape::may_end))]
 pub fn may_end(port: bool, state: u8) -> bool
     ensures { result ≡ may_end port state }
 {
-    if state == BODY {
-        return true;
-    }
-    if state == INDEXED {
-        return true;
-    }
-    if state == RANGED {
-        return port;
-    }
-    false
+    matches!(state, BODY | INDEXED) || (state == RANGED && port)
 }
 
 // Whether the word is an instance's path, with the divider `/` or `.`.
+#[tactic(auto, unfolding(crate::specs::Shape::is_path))]
 pub fn is_path(word: &[u8], slash: bool) -> bool
     ensures { result ≡ is_path slash word.now }
 {
@@ -201,6 +158,7 @@ pub fn is_path(word: &[u8], slash: bool) -> bool
 }
 
 // Whether the word is a port's name, with the divider `/` or `.`.
+#[tactic(auto, unfolding(crate::specs::Shape::is_port))]
 pub fn is_port(word: &[u8], slash: bool) -> bool
     ensures { result ≡ is_port slash word.now }
 {
@@ -208,40 +166,31 @@ pub fn is_port(word: &[u8], slash: bool) -> bool
 }
 
 // Whether a backslash has the next byte escaped.
+#[tactic(auto, unfolding(crate::specs::Shape::escapes))]
 pub fn escape(escaped: bool, byte: u8) -> bool
     ensures { result ≡ escapes escaped byte }
 {
-    if escaped {
-        return false;
-    }
-    byte == b'\\'
+    !escaped && byte == b'\\'
 }
 
+#[tactic(auto, unfolding(crate::specs::Shape::may_follow))]
 fn may_follow(escaped: bool, byte: u8) -> bool
     ensures { result ≡ may_follow escaped byte }
 {
-    if is_legal(byte) {
-        if escaped {
-            return true;
-        }
-        return byte != b'"';
-    }
-    false
+    is_legal(byte) && (escaped || byte != b'"')
 }
 
 // Whether the text may stand between two quotes.
+#[tactic(auto, using(crate::specs::Shape::text_turn, crate::specs::Shape::text_end), unfolding(crate::specs::Shape::is_text))]
 pub fn is_text(text: &[u8]) -> bool
     ensures { result ≡ is_text text.now }
 {
-    let mut i = 0;
     let mut escaped = false;
-    while i < text.len() {
-        let byte = text[i];
+    for &byte in text {
         if !may_follow(escaped, byte) {
             return false;
         }
         escaped = escape(escaped, byte);
-        i += 1;
     }
     !escaped
 }

@@ -1,6 +1,6 @@
 -- Laws of names where they stand: one more byte of a component, one more divider, the word that they make; and the cases of a name's refusal.
 -- Assumes nothing.
-use Rattle.std.specs.Prelude.{ℕ, suc, ◌+◌, ◌-◌, ◌≤◌, ◌<◌, ◌≡◌, refl, Bool, true, false, List, eqb, leb, ltb, length, get_or, replicate}
+use Rattle.std.specs.Prelude.{ℕ, suc, ◌+◌, ◌-◌, ◌≤◌, ◌<◌, ◌≡◌, refl, Bool, true, false, List, eqb, leb, ltb, length, get_or, replicate, Result, Ok, Err}
 use Rattle.std.proofs.Common.{arith, add-one, sym, ap, subst, ◌∙◌, true≢false, drop-cons, leb-true, eqb-true}
 use Rattle.std.proofs.lemmas.Bool.{eqb-false}
 use Rattle.classes.specs.Choice.{pick, or, and, within}
@@ -11,11 +11,13 @@ use Rattle.scanning.specs.Runs.{word_from}
 use Rattle.scanning.specs.RunLaws.{more_bytes, plain-goes, word_goes_lem}
 use Rattle.tokenforms.specs.Tokens.{token_at}
 use Rattle.tokenforms.specs.declared.Token.{Token}
-use Rattle.tokenforms.specs.declared.Token.TheVariants.{Got}
+use Rattle.tokenforms.specs.declared.Refusal.{Refusal}
+use Rattle.tokenforms.specs.Tokens.{Got, Refused}
 use Rattle.tokens.specs.Stream.{part}
 use Rattle.tokens.specs.Quick.{word_token}
 use Rattle.nameshape.specs.Shape.{is_name_byte, divider, body_next, name_next, name_run, may_end, is_name}
-use Rattle.nametokens.specs.Shaped.{shape_of, name_fault, InName}
+use Rattle.nametokens.specs.declared.Shaped.{Shaped}
+use Rattle.nametokens.specs.Shaped.{ShapedAt, shape_of, name_fault, InName}
 
 -- Bytes of a component.
 
@@ -147,23 +149,29 @@ nowhere : (port : Bool) → may_end port 9 ≡ false
 unfolding may_end
 nowhere port = refl
 
+-- from a place from which the token is the same, so is its shape
+pub shaped_from : (s : List ℕ) (slash : Bool) (i p : ℕ) → token_at s i ≡ token_at s p → (r : Result Shaped Refusal) → ShapedAt slash s i r → ShapedAt slash s p r
+shaped_from s slash i p same (Ok v) w = (sym same ∙ w.0, w.1)
+shaped_from s slash i p same (Err why) w = sym same ∙ w
+
 -- A token of the kind k from b to e, judged where a name is expected, by where the reader stands behind it.
-module _ (P : ℕ → Type 0) (port slash : Bool) (s : List ℕ) (k b e : ℕ) (long : Bool)
-    (no_word : (k ≡ 7 → ⊥) → P 4)
-    (no_name : k ≡ 7 → is_name port slash (part b e s) ≡ false → P 4)
-    (too_long : k ≡ 7 → is_name port slash (part b e s) ≡ true → long ≡ true → P 8)
-    (fine : k ≡ 7 → is_name port slash (part b e s) ≡ true → long ≡ false → P 0) where
-  pub judged : (t : Token) (q n : ℕ) → t ≡ Got k b e long → q ≡ shape_of slash s t → n ≡ name_fault port q long → P n
-  judged t q n g f h = by (eqb k 7) refl (is_name port slash (part b e s)) refl long refl
+module _ (P : Result (Unit {0}) Refusal → Type 0) (port slash : Bool) (s : List ℕ) (k b e : ℕ) (long : Bool)
+    (no_word : (k ≡ 7 → ⊥) → P (Refused 4 b))
+    (no_name : k ≡ 7 → is_name port slash (part b e s) ≡ false → P (Refused 4 b))
+    (too_long : k ≡ 7 → is_name port slash (part b e s) ≡ true → long ≡ true → P (Refused 8 b))
+    (fine : k ≡ 7 → is_name port slash (part b e s) ≡ true → long ≡ false → P (Ok tt)) where
+  pub judged : (q : ℕ) → q ≡ pick (eqb k 7) (name_run slash 0 (part b e s)) 9 →
+      P (name_fault port (record { token = record { kind = k; start = b; end = e; long = long }; state = q }))
+  judged q shape = by (eqb k 7) refl (is_name port slash (part b e s)) refl long refl
     where
-      shape : q ≡ pick (eqb k 7) (name_run slash 0 (part b e s)) 9
-      shape = f ∙ ap (shape_of slash s) g
+      N : Result (Unit {0}) Refusal
+      N = name_fault port (record { token = record { kind = k; start = b; end = e; long = long }; state = q })
 
-      to : (m : ℕ) → name_fault port q long ≡ m → P m → P n
-      to m i p = subst P (sym (h ∙ i)) p
+      to : (m : Result (Unit {0}) Refusal) → N ≡ m → P m → P N
+      to m i p = subst P (sym i) p
 
-      by : (a : Bool) → eqb k 7 ≡ a → (v : Bool) → is_name port slash (part b e s) ≡ v → (c : Bool) → long ≡ c → P n
-      by false a v i c l = to 4 (rw (shape, a, nowhere port)) (no_word (eqb-false k 7 a))
-      by true a false i c l = to 4 (rw (shape, a, i)) (no_name (eqb-true k 7 a) i)
-      by true a true i true l = to 8 (rw (shape, a, i, l)) (too_long (eqb-true k 7 a) i l)
-      by true a true i false l = to 0 (rw (shape, a, i, l)) (fine (eqb-true k 7 a) i l)
+      by : (a : Bool) → eqb k 7 ≡ a → (v : Bool) → is_name port slash (part b e s) ≡ v → (c : Bool) → long ≡ c → P N
+      by false a v i c l = to (Refused 4 b) (rw (shape, a, nowhere port)) (no_word (eqb-false k 7 a))
+      by true a false i c l = to (Refused 4 b) (rw (shape, a, i)) (no_name (eqb-true k 7 a) i)
+      by true a true i true l = to (Refused 8 b) (rw (shape, a, i, l)) (too_long (eqb-true k 7 a) i l)
+      by true a true i false l = to (Ok tt) (rw (shape, a, i, l)) (fine (eqb-true k 7 a) i l)

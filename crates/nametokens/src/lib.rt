@@ -1,16 +1,12 @@
 // Tokens where a name may stand: a word's shape as a name is judged while the word is scanned.
 #![tactic(auto)]
 
-ghost use Rattle.std.specs.Prelude.{◌≡◌, ◌≤◌, eqb, length};
-ghost use Rattle.classes.specs.Choice.{pick};
-ghost use Rattle.tokenforms.specs.Tokens.{token_at};
-ghost use Rattle.tokens.specs.Stream.{part};
-ghost use Rattle.nameshape.specs.Shape.{name_run};
-ghost use Rattle.nametokens.specs.Shaped.{shape_of, name_fault, InName};
+ghost use Rattle.std.specs.Prelude.{◌≡◌, ◌≤◌, length};
+ghost use Rattle.nametokens.specs.Shaped.{shape_of, name_fault, InName, ShapedAt};
 
 use nameshape::{BODY, WRONG, divider_of, is_name_byte, may_end, name_run, run_on};
 use scanning::{peek, white_end, word_end};
-use tokenforms::Token;
+use tokenforms::{Refusal, Token};
 use tokens::token_from;
 
 // A token, and where a reader of names stands behind it.
@@ -44,52 +40,33 @@ fn plain_name(text: &[u8], from: usize, slash: bool) -> usize
     i
 }
 
-// Where a reader of names stands behind a token of this kind, from start to end.
-fn shape_of(text: &[u8], kind: u8, start: usize, end: usize, slash: bool) -> u8
-    requires { (start ≤ end) × (end ≤ length text.now) }
-    ensures { result ≡ pick (eqb kind 7) (name_run slash 0 (part start end text.now)) 9 }
+// Where a reader of names stands behind a token.
+fn shape_of(text: &[u8], token: Token, slash: bool) -> u8
+    requires { (token.start ≤ token.end) × (token.end ≤ length text.now) }
+    ensures { result ≡ shape_of slash text.now token }
 {
-    if kind == 7 {
-        return name_run(&text[start..end], slash);
+    if token.kind == 7 {
+        return name_run(&text[token.start..token.end], slash);
     }
     WRONG
 }
 
 // The token from a place on, of whatever form, and its shape.
-fn any_token(text: &[u8], from: usize, slash: bool) -> Shaped
+fn any_token(text: &[u8], from: usize, slash: bool) -> Result<Shaped, Refusal>
     requires { from ≤ length text.now }
-    ensures { (result.token ≡ token_at text.now from) × (result.state ≡ shape_of slash text.now result.token) }
+    ensures { ShapedAt slash text.now from result }
 {
-    let t = token_from(text, from);
-    match t {
-        Token::Stop { number, place } => Shaped {
-            token: Token::Stop {
-                number: number,
-                place: place,
-            },
-            state: WRONG,
-        },
-        Token::Got {
-            kind,
-            start,
-            end,
-            long,
-        } => Shaped {
-            token: Token::Got {
-                kind: kind,
-                start: start,
-                end: end,
-                long: long,
-            },
-            state: shape_of(text, kind, start, end, slash),
-        },
-    }
+    let token = token_from(text, from)?;
+    Ok(Shaped {
+        token,
+        state: shape_of(text, token, slash),
+    })
 }
 
 // The token from a place on, and its shape: as a rule a word of nothing but components and dividers.
-pub fn name_token(text: &[u8], from: usize, slash: bool) -> Shaped
+pub fn name_token(text: &[u8], from: usize, slash: bool) -> Result<Shaped, Refusal>
     requires { from ≤ length text.now }
-    ensures { (result.token ≡ token_at text.now from) × (result.state ≡ shape_of slash text.now result.token) }
+    ensures { ShapedAt slash text.now from result }
 {
     let start = white_end(text, from);
     if !is_name_byte(peek(text, start)) {
@@ -97,26 +74,27 @@ pub fn name_token(text: &[u8], from: usize, slash: bool) -> Shaped
     }
     let i = plain_name(text, start + 1, slash);
     let end = word_end(text, i);
-    Shaped {
-        token: Token::Got {
+    Ok(Shaped {
+        token: Token {
             kind: 7,
-            start: start,
-            end: end,
+            start,
+            end,
             long: 1024 < end - start,
         },
         state: run_on(&text[i..end], slash, BODY),
-    }
+    })
 }
 
-// 0 where a port's name (or an instance's path) stands that is not too long, else the refusal's number.
-pub fn name_fault(port: bool, state: u8, long: bool) -> u8
-    ensures { result ≡ name_fault port state long }
+// The refusal, unless the token is a port's name (or an instance's path) that is not too long.
+pub fn name_fault(port: bool, shaped: Shaped) -> Result<(), Refusal>
+    ensures { result ≡ name_fault port shaped }
 {
-    if may_end(port, state) {
-        if long {
-            return 8;
-        }
-        return 0;
+    let place = shaped.token.start;
+    if !may_end(port, shaped.state) {
+        return Err(Refusal { number: 4, place });
     }
-    4
+    if shaped.token.long {
+        return Err(Refusal { number: 8, place });
+    }
+    Ok(())
 }

@@ -2,13 +2,12 @@
 #![tactic(auto)]
 
 ghost use Rattle.std.specs.Prelude.{◌≡◌, true, false, ◌+◌, ◌≤◌, ◌<◌, length, take, eqb};
-ghost use Rattle.classes.specs.Choice.{pick};
 ghost use Rattle.names.specs.Name.{canon, part_of};
 ghost use Rattle.sheetlaws.specs.Sheet.{ar_next};
 ghost use Rattle.nearby.specs.Seats.{agree, Ends, There, Common, NoneNear, kind_fits, NoneFits};
 
 use grammar::Cell;
-use meant::sheetrecords;
+use meant::sheetrecords::Arc;
 
 const EVERY: u8 = 2;
 
@@ -35,17 +34,15 @@ fn front_part(text: &[u8], n: usize) -> &[u8]
 fn agreeing(x: &[u8], y: &[u8]) -> usize
     ensures { (result ≤ length x.now) × (agree y.now (take result x.now) ≡ true) }
 {
-    let mut i = 0;
-    while i < x.len() {
+    for (i, byte) in x.iter().enumerate() {
         if y.len() <= i {
             return x.len();
         }
-        if x[i] != y[i] {
+        if *byte != y[i] {
             return i;
         }
-        i += 1;
     }
-    i
+    x.len()
 }
 
 // How many of the first bytes of a name agree with both ends of an arc, as far as these go.
@@ -53,24 +50,30 @@ fn agreeing_ends(start: &[u8], arc: usize, name: &[u8]) -> usize
     requires { ar_next start.now arc ≤ length start.now }
     ensures { (result ≤ length name.now) × Ends start.now arc (take result name.now) }
 {
-    let n = agreeing(name, sheetrecords::first_end(start, arc));
-    agreeing(front_part(name, n), sheetrecords::second_end(start, arc))
+    let arc = Arc {
+        sheet: start,
+        place: arc,
+    };
+    let n = agreeing(name, arc.first_end());
+    agreeing(front_part(name, n), arc.second_end())
 }
 
 // A name with which the ends of all seated arcs agree: the longest front part of the first one's first end.
-pub fn common_front<'a>(start: &'a [u8], arcs: &[usize; 4096], count: usize) -> &'a [u8]
-    requires { (There start.now arcs.now count) × (count ≤ 4096) }
-    ensures { Common start.now arcs.now count result.now }
+pub fn common_front<'a>(start: &'a [u8], arcs: &[usize]) -> &'a [u8]
+    requires { There start.now arcs.now (length arcs.now) }
+    ensures { Common start.now arcs.now (length arcs.now) result.now }
 {
-    if count == 0 {
+    if arcs.is_empty() {
         return &start[0..0];
     }
-    let name = sheetrecords::first_end(start, arcs[0]);
+    let name = Arc {
+        sheet: start,
+        place: arcs[0],
+    }
+    .first_end();
     let mut n = name.len();
-    let mut i = 0;
-    while i < count {
-        n = agreeing_ends(start, arcs[i], front_part(name, n));
-        i += 1;
+    for arc in arcs {
+        n = agreeing_ends(start, *arc, front_part(name, n));
     }
     front_part(name, n)
 }
@@ -83,60 +86,33 @@ fn agrees(name: &[u8], written: &[u8], slash: bool) -> bool
 }
 
 // Whether a cell has a path that can touch none of the seated arcs.
-pub fn is_far<'a>(
-    file: &'a [u8],
-    incoming: &'a [u8],
-    side: bool,
-    slash: bool,
-    cell: Cell,
-    common: &[u8],
-) -> bool
+pub fn is_far(text: &[u8], slash: bool, cell: Cell, common: &[u8]) -> bool
     ensures { result ≡ true → (eqb cell.sort 2 ≡ false)
-        × (agree common.now (canon slash (part_of (pick side incoming.now file.now) cell.pathfrom cell.pathto)) ≡ false) }
+        × (agree common.now (canon slash (part_of text.now cell.pathfrom cell.pathto)) ≡ false) }
 {
     if cell.sort == EVERY {
         return false;
     }
-    let path = names::name_of(file, incoming, side, cell.pathfrom, cell.pathto);
+    let path = names::part_of(text, cell.pathfrom, cell.pathto);
     !agrees(common, path, slash)
 }
 
 // Whether a cell can touch one of the seated arcs: it has no path of its own, or that is a front part of an end. Many are not asked.
-pub fn is_near<'a>(
-    start: &[u8],
-    file: &'a [u8],
-    incoming: &'a [u8],
-    side: bool,
-    slash: bool,
-    cell: Cell,
-    arcs: &[usize; 4096],
-    count: usize,
-) -> bool
-    requires { (There start.now arcs.now count) × (count ≤ 4096) }
+pub fn is_near(start: &[u8], text: &[u8], slash: bool, cell: Cell, arcs: &[usize]) -> bool
+    requires { There start.now arcs.now (length arcs.now) }
     ensures { result ≡ false → (eqb cell.sort 2 ≡ false)
-        × NoneNear start.now (pick side incoming.now file.now) slash cell.pathfrom cell.pathto arcs.now count }
+        × NoneNear start.now text.now slash cell.pathfrom cell.pathto arcs.now (length arcs.now) }
 {
     if cell.sort == EVERY {
         return true;
     }
-    if FEW < count {
+    if FEW < arcs.len() {
         return true;
     }
-    let mut i = 0;
-    while i < count {
-        if touching::may_touch(
-            start,
-            file,
-            incoming,
-            side,
-            slash,
-            cell.pathfrom,
-            cell.pathto,
-            arcs[i],
-        ) {
+    for arc in arcs {
+        if touching::may_touch(start, text, slash, cell.pathfrom, cell.pathto, *arc) {
             return true;
         }
-        i += 1;
     }
     false
 }
@@ -152,19 +128,21 @@ fn fits(kind: u8, other: u8) -> bool
 }
 
 // Whether an entry of a kind can mean one of the seated arcs. Many are not asked.
-pub fn is_wanted(start: &[u8], arcs: &[usize; 4096], count: usize, kind: u8) -> bool
-    requires { (There start.now arcs.now count) × (count ≤ 4096) }
-    ensures { result ≡ false → NoneFits start.now kind arcs.now count }
+pub fn is_wanted(start: &[u8], arcs: &[usize], kind: u8) -> bool
+    requires { There start.now arcs.now (length arcs.now) }
+    ensures { result ≡ false → NoneFits start.now kind arcs.now (length arcs.now) }
 {
-    if FEW < count {
+    if FEW < arcs.len() {
         return true;
     }
-    let mut i = 0;
-    while i < count {
-        if fits(kind, sheetrecords::arc_kind(start, arcs[i])) {
+    for arc in arcs {
+        let arc = Arc {
+            sheet: start,
+            place: *arc,
+        };
+        if fits(kind, arc.kind()) {
             return true;
         }
-        i += 1;
     }
     false
 }

@@ -1,10 +1,10 @@
 -- How the exact value is computed with small numbers: digits past the femtosecond must be zeros, the others count, and powers of ten above.
 -- Assumes nothing.
-use Rattle.std.specs.Prelude.{ℕ, zero, suc, ◌+◌, ◌-◌, ◌*◌, ◌/◌, ◌%◌, ◌^◌, ◌≤◌, ◌<◌, ◌≡◌, refl, Bool, true, false, List, [], ◌∷◌, ◌++◌, eqb, length, take, drop}
+use Rattle.std.specs.Prelude.{ℕ, zero, suc, ◌+◌, ◌-◌, ◌*◌, ◌/◌, ◌%◌, ◌^◌, ◌≤◌, ◌<◌, ◌≡◌, refl, Bool, true, false, List, [], ◌∷◌, ◌++◌, eqb, length, take, drop, Err}
 use Rattle.std.proofs.Common.{ap, sym, ◌∙◌, zero-mul, mul-le-mul_right, mul-le-mul_left, mul-lt-mul_of_pos_right, div-add-mod', mod-lt, pow-suc, mul-one, add-zero, mod-eq_of_lt, mul_assoc, le_trans, arith, lit<, pow-add, take-append-drop, length-drop, eq-eqb, ne_eqb, eqb-true}
 use Rattle.std.proofs.Math.Nat.{pow-le-pow_right, pow-zero, one-le-pow, mul-add-mod_self_right, mul-add-div_right, div-eq_of_lt}
 use Rattle.std.proofs.lemmas.Bool.{eqb-false}
-use Rattle.numbershape.specs.declared.Number.TheVariants.{Fine}
+use Rattle.numbershape.specs.declared.NotTime.TheVariants.{Fine}
 use Rattle.classes.specs.Choice.{pick}
 use Rattle.numbershape.specs.Value.{horner, at_most, exact}
 
@@ -90,11 +90,11 @@ down-exact minus m up down h =
     let e : m * 10 ^ up ≡ q * (10 ^ (down - up) * 10 ^ up) + r * 10 ^ up = ap (λ n. n * 10 ^ up) w ∙ omega arith in
     let c = core q (r * 10 ^ up) (10 ^ (down - up) * 10 ^ up) (mul-lt-mul_of_pos_right (mod-lt m (pow_pos (down - up))) (pow_pos up)) in
     let z : m * 10 ^ 0 ≡ m = mul-one m in
-    rw (f, e, c.0, c.1, z) (ap (λ b. pick b (at_most minus q) Fine) (eqb-mul r (10 ^ up) (pow_pos up)))
+    rw (f, e, c.0, c.1, z) (ap (λ b. pick b (at_most minus q) (Err Fine)) (eqb-mul r (10 ^ up) (pow_pos up)))
 
 -- the digits that are kept, and those past the femtosecond, which must be zeros
 pub cut-exact : (minus : Bool) (ds : List ℕ) → Small ds → (j : ℕ)
-    → exact minus (horner 0 ds) 0 j ≡ pick (zeros (drop (length ds - j) ds)) (at_most minus (horner 0 (take (length ds - j) ds))) Fine
+    → exact minus (horner 0 ds) 0 j ≡ pick (zeros (drop (length ds - j) ds)) (at_most minus (horner 0 (take (length ds - j) ds))) (Err Fine)
 unfolding exact
 cut-exact minus ds h j =
     let n = length ds - j in

@@ -1,6 +1,6 @@
 -- Runs of digits and signs, place by place, as a loop over a word meets them.
 -- Assumes nothing.
-use Rattle.std.specs.Prelude.{ℕ, suc, ◌+◌, ◌-◌, ◌≤◌, ◌<◌, ◌≡◌, refl, Bool, true, false, List, [], ◌∷◌, eqb, length, get_or, drop}
+use Rattle.std.specs.Prelude.{ℕ, suc, ◌+◌, ◌-◌, ◌≤◌, ◌<◌, ◌≡◌, refl, Bool, true, false, List, [], ◌∷◌, eqb, length, get_or, drop, Option, Some, None, is_some}
 use Rattle.std.proofs.Common.{zero-le, suc-le-suc, ap, add-zero, add-one, arith, drop_of_length-le, length-drop, drop-cons, get_or-drop, drop-drop, eq-eqb, ne_eqb, eqb-true}
 use Rattle.std.proofs.lemmas.Bool.{eqb-false}
 use Rattle.classes.specs.Choice.{pick, or, and}
@@ -8,9 +8,6 @@ use Rattle.classes.specs.Classes.{is_digit}
 use Rattle.numbershape.specs.Shape.{first, run, signs, lead, digits_then, pointed, marked, exponent_fits, fraction_fits, below_of, is_number}
 use Rattle.numbershape.specs.declared.Parts.{Parts}
 use Rattle.numbershape.specs.declared.Power.{Power}
-use Rattle.numbershape.specs.declared.Power.TheVariants.{Stands, Nowhere}
-use Rattle.numbershape.specs.declared.Found.{Found}
-use Rattle.numbershape.specs.declared.Found.TheVariants.{Split, Misshapen}
 
 pub run-cons : (b : ℕ) (r : List ℕ) → run (b ∷ r) ≡ pick (is_digit b) (suc (run r)) 0
 unfolding run
@@ -48,14 +45,14 @@ run_le (b ∷ r) = by (is_digit b) (run_le r)
     by false h = zero-le
 
 -- the exponent from a place on: whether it is below zero, and where its digits start
-unfoldable pub power_at : List ℕ → ℕ → Power
-power_at w i = pick (exponent_fits (drop i w)) (Stands (below_of (drop i w)) (i + marked (drop i w))) Nowhere
+unfoldable pub power_at : List ℕ → ℕ → Option Power
+power_at w i = pick (exponent_fits (drop i w)) (Some (record { below = below_of (drop i w); power = i + marked (drop i w) })) None
 
-pub power_end : (w : List ℕ) (i : ℕ) → length w ≤ i → power_at w i ≡ Stands false i
+pub power_end : (w : List ℕ) (i : ℕ) → length w ≤ i → power_at w i ≡ Some (record { below = false; power = i })
 unfolding power_at exponent_fits below_of marked
 power_end w i h = rw (drop_of_length-le w h, add-zero)
 
-pub power_other : (w : List ℕ) (i : ℕ) → i < length w → eqb (get_or w i 0) 101 ≡ false → power_at w i ≡ Nowhere
+pub power_other : (w : List ℕ) (i : ℕ) → i < length w → eqb (get_or w i 0) 101 ≡ false → power_at w i ≡ None
 unfolding power_at exponent_fits
 power_other w i h e =
     let n : eqb (length w - i) 0 ≡ false = ne_eqb (length w - i) 0 (λ z. omega (arith, z)) in
@@ -67,7 +64,7 @@ pick-pick false c x y = refl
 
 -- with an e at i, a sign or none behind it and k digits at j
 pub power_marked : (w : List ℕ) (i j k : ℕ) → eqb (get_or w i 0) 101 ≡ true → j ≡ (i + 1) + signs (drop (i + 1) w) → k ≡ run (drop j w)
-    → power_at w i ≡ pick (eqb k 0) Nowhere (pick (eqb (length w - (j + k)) 0) (Stands (eqb (get_or w (i + 1) 0) 45) j) Nowhere)
+    → power_at w i ≡ pick (eqb k 0) None (pick (eqb (length w - (j + k)) 0) (Some (record { below = eqb (get_or w (i + 1) 0) 45; power = j })) None)
 unfolding power_at exponent_fits below_of marked digits_then
 power_marked w i j k e ej ek =
     let m : i + (1 + signs (drop (i + 1) w)) ≡ j = omega (arith, ej) in
@@ -129,41 +126,37 @@ parts_at signed w =
       power = end + marked (drop end w);
     }
 
-unfoldable pub found : Bool → List ℕ → Found
-found signed w = pick (is_number signed w) (Split (parts_at signed w)) Misshapen
+unfoldable pub found : Bool → List ℕ → Option Parts
+found signed w = pick (is_number signed w) (Some (parts_at signed w)) None
 
 -- the mantissa's places, and what was found of the exponent
-abbrev pub joined : Bool → ℕ → ℕ → ℕ → Power → Found
-joined minus start point end (Stands below power) =
-    Split (record { minus = minus; start = start; point = point; end = end; below = below; power = power })
-joined minus start point end Nowhere = Misshapen
+abbrev pub joined : Bool → ℕ → ℕ → ℕ → Option Power → Option Parts
+joined minus start point end (Some p) =
+    Some (record { minus = minus; start = start; point = point; end = end; below = p.below; power = p.power })
+joined minus start point end None = None
 
 -- the way of the code: whole digits, the fraction, the exponent
 pub found-is : (signed : Bool) (w : List ℕ) (start whole p : ℕ)
     → start ≡ lead signed w → whole ≡ run (drop start w) → p ≡ pointed (drop (start + whole) w)
-    → found signed w ≡ pick (eqb whole 0) Misshapen
-    (pick (eqb p 1) Misshapen
+    → found signed w ≡ pick (eqb whole 0) None
+    (pick (eqb p 1) None
     (joined (and signed (eqb (first w) 45)) start (start + whole) (start + whole + p) (power_at w (start + whole + p))))
 unfolding found is_number digits_then parts_at power_at
 found-is signed w start whole p es ew ep =
     rw (← es, ← ew, drop-drop whole start w, fraction_fits_lem, ← ep, drop-drop p (start + whole) w, pick-pick, pick-pick)
-    (ap (λ f. pick (eqb whole 0) Misshapen (pick (eqb p 1) Misshapen f)) (join (exponent_fits (drop (start + whole + p) w)) _ _ _ _ _ _))
+    (ap (λ f. pick (eqb whole 0) None (pick (eqb p 1) None f)) (join (exponent_fits (drop (start + whole + p) w)) _ _ _ _ _ _))
   where
     join : (b minus below : Bool) (start point end power : ℕ)
-        → pick b (Split (record { minus = minus; start = start; point = point; end = end; below = below; power = power })) Misshapen
-        ≡ joined minus start point end (pick b (Stands below power) Nowhere)
+        → pick b (Some (record { minus = minus; start = start; point = point; end = end; below = below; power = power })) None
+        ≡ joined minus start point end (pick b (Some (record { below = below; power = power })) None)
     join true m b s p e q = refl
     join false m b s p e q = refl
 
 -- parts are found exactly where the word is a number
-abbrev pub is_split : Found → Bool
-is_split (Split p) = true
-is_split Misshapen = false
-
-pub found_shape : (signed : Bool) (w : List ℕ) → is_split (found signed w) ≡ is_number signed w
+pub found_shape : (signed : Bool) (w : List ℕ) → is_some (found signed w) ≡ is_number signed w
 unfolding found
 found_shape signed w = by (is_number signed w) (parts_at signed w)
   where
-    by : (b : Bool) (p : Parts) → is_split (pick b (Split p) Misshapen) ≡ b
+    by : (b : Bool) (p : Parts) → is_some (pick b (Some p) None) ≡ b
     by true p = refl
     by false p = refl

@@ -1,14 +1,15 @@
 -- The reading of digits one byte after the other, stopped at 10 ^ 15 + 1, and that it comes to the same.
 -- Assumes nothing.
 use Rattle.std.specs.Prelude.{ℕ, zero, suc, ◌+◌, ◌-◌, ◌*◌, ◌^◌, ◌≤◌, ◌<◌, min, ◌≡◌, refl, Bool, true, false, List, [], ◌∷◌, eqb, leb, length, take, drop, get_or}
+use Rattle.std.specs.Prelude.{ℤ, Result, Err}
 use Rattle.std.proofs.Common.{ap, sym, ◌∙◌, pow-suc, mul-le-mul_right, mul-le-mul_left, le_of_lt, not-suc-le-zero, le_of_suc-le-suc, add-one, arith, lit<, drop_of_length-le, drop-cons, leb-true, leb-false, eqb-true, ne_eqb, eq-eqb}
 use Rattle.std.proofs.Math.Nat.{one-le-pow}
 use Rattle.std.proofs.Math.Dec.{eqb-suc-zero}
 use Rattle.std.proofs.Math.Seq.{drop-nil, take-nil}
 use Rattle.std.proofs.lemmas.Bool.{eqb-false}
 use Rattle.numbershape.specs.declared.Digits.{Digits}
-use Rattle.numbershape.specs.declared.Number.{Number}
-use Rattle.numbershape.specs.declared.Number.TheVariants.{Fine}
+use Rattle.numbershape.specs.declared.NotTime.{NotTime}
+use Rattle.numbershape.specs.declared.NotTime.TheVariants.{Fine}
 use Rattle.classes.specs.Choice.{pick}
 use Rattle.numbershape.specs.Value.{horner, limit, at_most, exact}
 use Rattle.numbershape.specs.Fast.{zeros, Small, up-exact, down-exact, cut-exact}
@@ -51,8 +52,8 @@ fold_end f a s i h = rw (drop_of_length-le s h)
 abbrev pub start : ℕ → Digits
 start keep = made 0 keep false
 
-abbrev pub answer_of : Bool → Digits → Number
-answer_of minus a = pick a.fine Fine (at_most minus a.value)
+abbrev pub answer_of : Bool → Digits → Result ℤ NotTime
+answer_of minus a = pick a.fine (Err Fine) (at_most minus a.value)
 
 pub at_most-min : (minus : Bool) (x : ℕ) → at_most minus (min x stop) ≡ at_most minus x
 at_most-min minus x = by (leb x limit) refl
@@ -96,9 +97,9 @@ keep-is b x n f e =
 abbrev Goal : Bool → List ℕ → ℕ → ℕ → Bool → Type 0
 Goal minus t x left f =
     answer_of minus (fold step_of (made (min x stop) left f) t)
-    ≡ pick f Fine (pick (zeros (drop left (figures t))) (at_most minus (horner x (take left (figures t)))) Fine)
+    ≡ pick f (Err Fine) (pick (zeros (drop left (figures t))) (at_most minus (horner x (take left (figures t)))) (Err Fine))
 
-either_fine : (f : Bool) (x y : Number) → x ≡ Fine → y ≡ Fine → pick true Fine x ≡ pick f Fine y
+either_fine : (f : Bool) (x y : Result ℤ NotTime) → x ≡ Err Fine → y ≡ Err Fine → pick true (Err Fine) x ≡ pick f (Err Fine) y
 either_fine true x y p q = refl
 either_fine false x y p q = sym q
 
@@ -112,18 +113,18 @@ fine_is b v f e k = rw (e, k)
 
 -- past what is kept
 zero-step : (minus : Bool) (b : ℕ) (t : List ℕ) (x : ℕ) (f : Bool) → leb 48 b ≡ true → ((f : Bool) → Goal minus t x 0 f)
-    → answer_of minus (fold step_of (step_of (made (min x stop) 0 f) b) t) ≡ pick f Fine (pick (zeros ((b - 48) ∷ figures t)) (at_most minus x) Fine)
+    → answer_of minus (fold step_of (step_of (made (min x stop) 0 f) b) t) ≡ pick f (Err Fine) (pick (zeros ((b - 48) ∷ figures t)) (at_most minus x) (Err Fine))
 zero-step minus b t x f e ih = by (eqb b 48) refl
   where
     by : (c : Bool) → eqb b 48 ≡ c
         → answer_of minus (fold step_of (step_of (made (min x stop) 0 f) b) t)
-        ≡ pick f Fine (pick (zeros ((b - 48) ∷ figures t)) (at_most minus x) Fine)
+        ≡ pick f (Err Fine) (pick (zeros ((b - 48) ∷ figures t)) (at_most minus x) (Err Fine))
     by true k =
         let n : eqb (b - 48) 0 ≡ true = eq-eqb (b - 48) 0 (omega (arith, eqb-true b 48 k)) in
         rw (zero_is b (min x stop) f e k, n) (ih f)
     by false k =
         let n : eqb (b - 48) 0 ≡ false = ne_eqb (b - 48) 0 (λ z. eqb-false b 48 k (omega (arith, z, leb-true 48 b e))) in
-        rw (fine_is b (min x stop) f e k, n) (ih true ∙ either_fine f Fine Fine refl refl)
+        rw (fine_is b (min x stop) f e k, n) (ih true ∙ either_fine f (Err Fine) (Err Fine) refl refl)
 
 -- what the steps come to, where left digits are kept
 pub steps_cut : (minus : Bool) (t : List ℕ) (x left : ℕ) (f : Bool) → Goal minus t x left f
@@ -133,9 +134,9 @@ steps_cut minus (b ∷ t) x left f = by (leb 48 b) refl left (steps_cut minus t)
   where
     by : (c : Bool) → leb 48 b ≡ c → (left : ℕ) → ((x left : ℕ) (f : Bool) → Goal minus t x left f)
         → answer_of minus (fold step_of (step_of (made (min x stop) left f) b) t)
-        ≡ pick f Fine
+        ≡ pick f (Err Fine)
         (pick (zeros (drop left (pick c ((b - 48) ∷ figures t) (figures t))))
-        (at_most minus (horner x (take left (pick c ((b - 48) ∷ figures t) (figures t))))) Fine)
+        (at_most minus (horner x (take left (pick c ((b - 48) ∷ figures t) (figures t))))) (Err Fine))
     by true e zero ih = zero-step minus b t x f e (ih x 0)
     by true e (suc n) ih = rw (keep-is b x n f e) (ih (x * 10 + (b - 48)) n f)
     by false e left ih = rw (skip_is b (made (min x stop) left f) e) (ih x left f)
@@ -178,5 +179,5 @@ pub down_way : (minus : Bool) (t : List ℕ) → Small (figures t) → (keep up 
 down_way minus t sm keep up down a hk h ea =
     let ds = figures t in
     ap (answer_of minus) ea ∙ steps_cut minus t 0 keep false
-    ∙ ap (λ k. pick (zeros (drop k ds)) (at_most minus (horner 0 (take k ds))) Fine) hk
+    ∙ ap (λ k. pick (zeros (drop k ds)) (at_most minus (horner 0 (take k ds))) (Err Fine)) hk
     ∙ sym (cut-exact minus ds sm (down - up)) ∙ sym (down-exact minus (horner 0 ds) up down h)

@@ -1,7 +1,7 @@
 // The shape of a number, and what its digits make (document 01, 'Numbers and times').
 #![tactic(auto)]
 
-ghost use Rattle.std.specs.Prelude.{◌≡◌, ◌+◌, ◌-◌, ◌*◌, ◌≤◌, ◌<◌, min, eqb, length, drop};
+ghost use Rattle.std.specs.Prelude.{◌≡◌, ◌+◌, ◌-◌, ◌*◌, ◌≤◌, ◌<◌, min, eqb, length, drop, IfSome};
 ghost use Rattle.classes.specs.Choice.{and};
 ghost use Rattle.numbershape.specs.Shape.{first, run, signs, lead, pointed, is_number};
 ghost use Rattle.numbershape.specs.Places.{power_at, found};
@@ -11,15 +11,16 @@ ghost use Rattle.numbershape.specs.Scans.{Scans};
 use classes::is_digit;
 
 // One more than the 10^15 femtoseconds of the longest time: where numbers are stopped, since all beyond are alike.
-const STOP: u64 = 1_000_000_000_000_001;
+pub const STOP: u64 = 1_000_000_000_000_001;
 
-// What a word at a number's place is: a time in femtoseconds, within 10^15 either way; finer than a femtosecond (refusal 6);
-// whole, but beyond 10^15 (7); no number at all (4).
-#[derive(Clone, Copy)]
-pub enum Number {
-    Time(i64),
+// Why a word at a number's place is no time in femtoseconds, within 10^15 either way.
+#[derive(Clone, Copy, Debug, PartialEq, Eq)]
+pub enum NotTime {
+    // Finer than a femtosecond (refusal 6).
     Fine,
+    // Whole, but beyond 10^15 (7).
     Beyond,
+    // No number at all (4).
     Wrong,
 }
 
@@ -41,18 +42,11 @@ pub struct Parts {
     pub power: usize,
 }
 
-// An exponent that goes on to the word's end, or none: its sign, and where its digits start.
+// An exponent that goes on to the word's end: its sign, and where its digits start.
 #[derive(Clone, Copy)]
-pub enum Power {
-    Stands { below: bool, power: usize },
-    Nowhere,
-}
-
-// A word's parts, if it has a number's shape.
-#[derive(Clone, Copy)]
-pub enum Found {
-    Split(Parts),
-    Misshapen,
+pub struct Power {
+    pub below: bool,
+    pub power: usize,
 }
 
 // The digits read: their number, stopped at 10^15 + 1; how many more are to be kept; whether one past those is not 0.
@@ -67,10 +61,7 @@ pub struct Digits {
 pub fn digit(byte: u8) -> u64
     ensures { (result ≡ byte - 48) × (result < 256) }
 {
-    if byte < b'0' {
-        return 0;
-    }
-    (byte - b'0') as u64
+    u64::from(byte.saturating_sub(b'0'))
 }
 
 // One digit more, stopped at 10^15 + 1.
@@ -78,8 +69,7 @@ pub fn put(value: u64, digit: u64) -> u64
     requires { (value ≤ stop) × (digit < 256) }
     ensures { (result ≡ min (value * 10 + digit) stop) × (result ≤ stop) }
 {
-    let next = value * 10 + digit;
-    if next < STOP { next } else { STOP }
+    (value * 10 + digit).min(STOP)
 }
 
 // The digits from a place on, behind those that make `base`.
@@ -88,21 +78,16 @@ pub fn scan_digits(word: &[u8], from: usize, base: u64) -> Scanned
     ensures { Scans word.now from base result }
 {
     let mut value = base;
-    let mut i = from;
-    while i < word.len() {
+    for i in from..word.len() {
         let byte = word[i];
         if !is_digit(byte) {
-            return Scanned {
-                end: i,
-                value: value,
-            };
+            return Scanned { end: i, value };
         }
         value = put(value, digit(byte));
-        i += 1;
     }
     Scanned {
-        end: i,
-        value: value,
+        end: word.len(),
+        value,
     }
 }
 
@@ -111,8 +96,7 @@ fn count_digits(word: &[u8], from: usize) -> usize
     requires { from ≤ length word.now }
     ensures { (result ≡ run (drop from word.now)) × (from + result ≤ length word.now) }
 {
-    let digits = scan_digits(word, from, 0);
-    digits.end - from
+    scan_digits(word, from, 0).end - from
 }
 
 // How many signs stand at a place: 1, or 0.
@@ -120,38 +104,24 @@ fn count_signs(word: &[u8], from: usize) -> usize
     requires { from ≤ length word.now }
     ensures { (result ≡ signs (drop from word.now)) × (from + result ≤ length word.now) }
 {
-    if from == word.len() {
-        return 0;
+    match word.get(from) {
+        Some(b'+' | b'-') => 1,
+        _ => 0,
     }
-    if word[from] == b'+' {
-        return 1;
-    }
-    if word[from] == b'-' {
-        return 1;
-    }
-    0
 }
 
 // The leading sign's length, in a signed place.
 pub fn count_lead(word: &[u8], signed: bool) -> usize
     ensures { (result ≡ lead signed word.now) × (result ≤ length word.now) }
 {
-    if signed {
-        return count_signs(word, 0);
-    }
-    0
+    if signed { count_signs(word, 0) } else { 0 }
 }
 
 // Whether a signed place begins with a minus.
 pub fn is_minus(word: &[u8], signed: bool) -> bool
     ensures { result ≡ and signed (eqb (first word.now) 45) }
 {
-    if signed {
-        if 0 < word.len() {
-            return word[0] == b'-';
-        }
-    }
-    false
+    signed && word.first() == Some(&b'-')
 }
 
 // How many bytes a point and its digits take: 0 where there is no point, 1 where it has no digits.
@@ -159,70 +129,64 @@ fn count_pointed(word: &[u8], from: usize) -> usize
     requires { from ≤ length word.now }
     ensures { (result ≡ pointed (drop from word.now)) × (from + result ≤ length word.now) }
 {
-    if from == word.len() {
-        return 0;
+    match word.get(from) {
+        Some(b'.') => 1 + count_digits(word, from + 1),
+        _ => 0,
     }
-    if word[from] != b'.' {
-        return 0;
-    }
-    1 + count_digits(word, from + 1)
 }
 
 // The exponent, between the mantissa's end and the word's.
-fn find_power(word: &[u8], from: usize) -> Power
+fn find_power(word: &[u8], from: usize) -> Option<Power>
     requires { from ≤ length word.now }
-    ensures { result ≡ power_at word.now from }
+    ensures power { result ≡ power_at word.now from }
+    ensures within { IfSome result (λ p. p.power ≤ length word.now) }
 {
-    if from == word.len() {
-        return Power::Stands {
+    let Some(&mark) = word.get(from) else {
+        return Some(Power {
             below: false,
             power: from,
-        };
-    }
-    if word[from] != b'e' {
-        return Power::Nowhere;
+        });
+    };
+    if mark != b'e' {
+        return None;
     }
     let next = from + 1;
     let power = next + count_signs(word, next);
     let digits = count_digits(word, power);
-    if digits == 0 {
-        return Power::Nowhere;
+    if digits == 0 || power + digits < word.len() {
+        return None;
     }
-    if power + digits < word.len() {
-        return Power::Nowhere;
-    }
-    Power::Stands {
+    Some(Power {
         below: word[next] == b'-',
-        power: power,
-    }
+        power,
+    })
 }
 
 // Where the parts of a number stand, if the word has its shape.
-pub fn find_parts(word: &[u8], signed: bool) -> Found
-    ensures { result ≡ found signed word.now }
+pub fn find_parts(word: &[u8], signed: bool) -> Option<Parts>
+    ensures parts { result ≡ found signed word.now }
+    ensures within { IfSome result (λ p. (p.start ≤ p.point) × (p.point ≤ p.end) × (p.end ≤ length word.now) × (p.power ≤ length word.now)) }
 {
     let start = count_lead(word, signed);
     let whole = count_digits(word, start);
     if whole == 0 {
-        return Found::Misshapen;
+        return None;
     }
     let point = start + whole;
     let pointed = count_pointed(word, point);
     if pointed == 1 {
-        return Found::Misshapen;
+        return None;
     }
     let end = point + pointed;
     let minus = is_minus(word, signed);
-    let Power::Stands { below, power } = find_power(word, end) else {
-        return Found::Misshapen;
-    };
-    Found::Split(Parts {
-        minus: minus,
-        start: start,
-        point: point,
-        end: end,
-        below: below,
-        power: power,
+    let Power { below, power } = find_power(word, end)?;
+    Some(Parts {
+        minus,
+        start,
+        point,
+        end,
+        below,
+        power,
     })
 }
 
@@ -230,8 +194,5 @@ pub fn find_parts(word: &[u8], signed: bool) -> Found
 pub fn is_number(word: &[u8], signed: bool) -> bool
     ensures { result ≡ is_number signed word.now }
 {
-    let Found::Split(_) = find_parts(word, signed) else {
-        return false;
-    };
-    true
+    find_parts(word, signed).is_some()
 }

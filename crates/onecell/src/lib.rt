@@ -6,9 +6,9 @@ ghost use Rattle.readcells.specs.Files.{FileIs};
 ghost use Rattle.onecell.specs.One.{OneRead};
 ghost use Rattle.grammar.specs.Outcome.{read_cell_of};
 
-use grammar::{Hand, ReadBody};
 use headsteps::take_opened;
-use readcells::{Answer, FileRead};
+use readcells::{Counts, FileRead, Rows, finish, read_tail};
+use tokenforms::Refusal;
 use values::wrong_at;
 
 // No text is longer than this.
@@ -20,53 +20,40 @@ fn one_cell(
     slash: bool,
     unit: u8,
     fill: bool,
-    cellroom: usize,
-    entryroom: usize,
+    room: Counts,
     cells: &mut [u64],
     entries: &mut [u64],
-) -> Answer
-    requires { (7 * cellroom ≤ length cells.old) × (28 * entryroom ≤ length entries.old) }
-    ensures { OneRead text.now slash unit fill cellroom entryroom cells.old cells.new entries.old entries.new result }
+) -> Result<Counts, Refusal>
+    requires { (7 * room.cells ≤ length cells.old) × (28 * room.entries ≤ length entries.old) }
+    ensures { OneRead text.now slash unit fill room.cells room.entries cells.old cells.new entries.old entries.new result }
 {
-    let hand = take_opened(text, 0);
-    match hand {
-        Hand::Refused { number, place } => Answer::Refused {
-            number: number,
-            place: place,
-        },
-        Hand::At {
-            from: _,
-            kind,
-            start,
-            end,
-            long: _,
-            key,
-        } => {
-            if key != 53 {
-                let wrong = wrong_at(&text[start..end], kind, true);
-                return Answer::Refused {
-                    number: wrong,
-                    place: start,
-                };
-            }
-            if cellroom == 0 {
-                return Answer::Refused {
-                    number: 9,
-                    place: start,
-                };
-            }
-            let tail = readcells::read_tail(
-                text, end, start, slash, unit, entryroom, fill, 0, 0, cells, entries,
-            );
-            match tail {
-                ReadBody::Refused { number, place } => Answer::Refused {
-                    number: number,
-                    place: place,
-                },
-                ReadBody::Done { end: behind, count } => readcells::finish(text, behind, 1, count),
-            }
-        }
+    let hand = take_opened(text, 0)?;
+    let token = hand.token;
+    let place = token.start;
+    if hand.key != 53 {
+        let number = wrong_at(&text[place..token.end], token.kind, true);
+        return Err(Refusal { number, place });
     }
+    if room.cells == 0 {
+        return Err(Refusal { number: 9, place });
+    }
+    let rows = Rows {
+        fill,
+        cell: 0,
+        entry: 0,
+    };
+    let tail = read_tail(
+        text,
+        token.end,
+        place,
+        slash,
+        unit,
+        room.entries,
+        rows,
+        cells,
+        entries,
+    )?;
+    finish(text, tail.end, 1, tail.count)
 }
 
 // Reads a text that is one cell, with white space and comments around it, by the divider and the time scale given (those of the file that the
@@ -81,27 +68,24 @@ pub fn read_cell(
     ensures { FileIs (read_cell_of slash unit (length cells.old / 7) (length entries.old / 28) text.now) cells.old cells.new entries.old entries.new result }
 {
     if LIMIT < text.len() {
-        return readcells::refused(1, 0);
+        return readcells::refused(Refusal {
+            number: 1,
+            place: 0,
+        });
     }
-    let cellroom = cells.len() / 7;
-    let entryroom = entries.len() / 28;
-    let first = one_cell(
-        text, slash, unit, false, cellroom, entryroom, cells, entries,
-    );
-    match first {
-        Answer::Refused { number, place } => readcells::refused(number, place),
-        Answer::Read {
-            cells: n,
-            entries: m,
-        } => {
-            one_cell(text, slash, unit, true, cellroom, entryroom, cells, entries);
+    let room = Counts {
+        cells: cells.len() / 7,
+        entries: entries.len() / 28,
+    };
+    match one_cell(text, slash, unit, false, room, cells, entries) {
+        Err(refusal) => readcells::refused(refusal),
+        Ok(counts) => {
+            // What was read once is read again, now into the tables.
+            let _ = one_cell(text, slash, unit, true, room, cells, entries);
             FileRead {
-                answer: Answer::Read {
-                    cells: n,
-                    entries: m,
-                },
-                slash: slash,
-                unit: unit,
+                answer: Ok(counts),
+                slash,
+                unit,
                 texts: [0usize; 14],
             }
         }

@@ -6,8 +6,7 @@ use Rattle.std.proofs.Math.ListN.{get_elem?}
 use Rattle.wire.specs.Wire.{Bytes}
 use Rattle.grammar.specs.declared.Cell as read
 use Rattle.grammar.specs.Meaning.{Item}
-use Rattle.sheetparts.specs.Form.{check_of}
-use Rattle.sheetparts.specs.declared.SheetCheck.TheVariants.{Good}
+use Rattle.sheetparts.specs.Form.{Good, check_of}
 use Rattle.history.specs.Events.{Event}
 use Rattle.history.specs.Scan.{own_fault}
 use Rattle.history.specs.Sheet.{Slot, Cell, entry_event, events}

@@ -1,6 +1,6 @@
 -- What the records refuse of the incoming cell: the loop over its entries, its keyword, and the place of it all in the new file.
 -- Assumes nothing.
-use Rattle.std.specs.Prelude.{ℕ, zero, suc, ◌+◌, ◌*◌, ◌<◌, ◌≤◌, ◌≡◌, Bool, List, [], ◌∷◌, map, get_or}
+use Rattle.std.specs.Prelude.{ℕ, zero, suc, ◌+◌, ◌*◌, ◌<◌, ◌≤◌, ◌≡◌, Bool, List, [], ◌∷◌, map, get_or, Option, Some, None}
 use Rattle.std.proofs.Math.Path.{refl, sym, ap, subst}
 use Rattle.std.proofs.Common.{◌∙◌, arith, add-zero, zero-add}
 use Rattle.std.proofs.Math.Bool.{true, false}
@@ -16,11 +16,8 @@ use Rattle.grammar.specs.declared.Cell as read
 use Rattle.grammar.specs.Meaning.{Item}
 use Rattle.meant.specs.Sound.{SoundItem}
 use Rattle.tables.specs.Layout.{entry_row}
-use Rattle.sheetparts.specs.Form.{check_of, type_at}
-use Rattle.sheetparts.specs.declared.SheetCheck.TheVariants.{Good}
+use Rattle.sheetparts.specs.Form.{Good, check_of, type_at}
 use Rattle.meant.specs.Find.{find_instance}
-use Rattle.meant.specs.FoundType.{Found}
-use Rattle.meant.specs.FoundType.TheVariants.{At, Nothing}
 use Rattle.views.specs.Views.{cell_at}
 use Rattle.history.specs.Events.{Event}
 use Rattle.history.specs.Scan.{own_fault}
@@ -162,11 +159,11 @@ module _ (b : List ℕ) (n m f : ℕ) (incoming : List ℕ) (slash : Bool) (t : 
 -- 3. The cell
 
 module _ (b : List ℕ) (bytes : Bytes b) (n m f : ℕ) (good : check_of b ≡ Good n m f) where
-  found_none : (path : List ℕ) (c : Cell Where) → c.part ≡ part.at path → (o : Found) → find_instance b path n 12 ≡ o
+  found_none : (path : List ℕ) (c : Cell Where) → c.part ≡ part.at path → (o : Option ℕ) → find_instance b path n 12 ≡ o
       → ((x : ℕ) → typed_as b c.type o ≡ Nobody x → ⊥) → cell_number (records_at b n m f) c ≡ none
   unfolding typed_as
-  found_none path c p Nothing e h = absurd (h 12 refl)
-  found_none path c p (At q) e h = go (same_text (type_at b q) c.type) refl h
+  found_none path c p None e h = absurd (h 12 refl)
+  found_none path c p (Some q) e h = go (same_text (type_at b q) c.type) refl h
     where
       go : (t : Bool) → same_text (type_at b q) c.type ≡ t → ((x : ℕ) → pick t (One q) (Nobody 13) ≡ Nobody x → ⊥) → cell_number (records_at b n m f) c ≡ none
       go true d h = cell_same b bytes n m f good c path q p e d

@@ -1,18 +1,18 @@
 -- How many cells were read of each text, beside the answer of the patch.
 -- Assumes nothing.
-use Rattle.std.specs.Prelude.{ℕ, ◌≡◌, List}
+use Rattle.std.specs.Prelude.{ℕ, ◌≡◌, List, Result, Ok, Err}
 use Rattle.grammar.specs.Machine.{Res}
 use Rattle.grammar.specs.Reading.{At}
-use Rattle.readcells.specs.declared.Answer.{Answer}
-use Rattle.readcells.specs.declared.Answer.TheVariants as answer
+use Rattle.readcells.specs.declared.Counts.{Counts}
+use Rattle.readcells.specs.Refusal.{Refusal}
 use Rattle.readcells.specs.Files.{answer_of}
 use Rattle.patch.specs.declared.Counted.{Counted}
 use Rattle.patch.specs.Meaning.{Course, file_table, cell_table, PatchIs}
 
 -- the cells of a text that was read; a refused one has none
-abbrev pub count_of : Answer → ℕ
-count_of (answer.Read n m) = n
-count_of (answer.Refused k q) = 0
+abbrev pub count_of : Result Counts Refusal → ℕ
+count_of (Ok counts) = counts.cells
+count_of (Err why) = 0
 
 abbrev pub cells_read : Res At → ℕ
 cells_read o = count_of (answer_of o)

@@ -1,7 +1,7 @@
 -- 'Patching is annotating with the new file': demand 3, about the texts and the bytes that the program is given.
 -- Assumes nothing.
 use Prim.Native.Nat.{ℕ, zero, suc, ◌+◌, ◌*◌, ◌<◌, ◌≤◌}
-use Rattle.std.specs.Prelude.{◌≡◌, Bool, ◌⊎◌, eqb, ltb, take, drop}
+use Rattle.std.specs.Prelude.{◌≡◌, Bool, ◌⊎◌, eqb, ltb, take, drop, Ok, Err}
 use Rattle.std.proofs.Math.Path.{refl, sym, ap, subst}
 use Rattle.std.proofs.Common.{◌∙◌, ⊎_elim, arith, SFits, to_z, of_z}
 use Rattle.std.proofs.Math.Bool.{true, false}
@@ -23,9 +23,7 @@ use Rattle.grammar.specs.Machine.{Res, fine, bad}
 use Rattle.grammar.specs.Reading.{At}
 use Rattle.grammar.specs.Outcome.{read_file, read_cell_of}
 use Rattle.meant.specs.Sound.{Each, SoundItem, read_sound}
-use Rattle.sheetparts.specs.Form.{check_of, values_at}
-use Rattle.sheetparts.specs.declared.SheetCheck.{SheetCheck}
-use Rattle.sheetparts.specs.declared.SheetCheck.TheVariants.{Good, Bad}
+use Rattle.sheetparts.specs.Form.{Good, SheetCheck, check_of, values_at}
 use Rattle.sheetlaws.specs.Rule.{least}
 use Rattle.sheetlaws.specs.Sheet.{Sheet, place, ar_next, arcs_at, decode_of, decode}
 use Rattle.sheetlaws.specs.Sheet as bytes
@@ -360,15 +358,16 @@ accepted start file cr ir long s st v e = go (check_of start) refl (eqb long (le
     go : (k : SheetCheck) → check_of start ≡ k → (t : Bool) → eqb long (length start) ≡ t → (r : Res At) → read_file cr ir file ≡ r
         → annotating.by_sheet start file long (read_file cr ir file) (decode_of start (check_of start)) ≡ annotating.judged s st (sheet v)
         → (n : ℕ) × (m : ℕ) × (f : ℕ) × Accepted start file cr ir s st v n m f
-    go (Bad k p) c t q r d e = let w = rw c at e in let z : ◌≡◌ {A = ℕ} 0 1 = cc in absurd (omega arith)
-    go (Good n m f) c false q r d e = let w = rw (c, q) at e in let z : ◌≡◌ {A = ℕ} 0 1 = cc in absurd (omega arith)
-    go (Good n m f) c true q (bad x p) d e = let w = rw (c, q, d) at e in let z : ◌≡◌ {A = ℕ} 0 1 = cc in absurd (omega arith)
-    go (Good n m f) c true q (fine st') d e =
+    go (Err x) c t q r d e = let w = rw c at e in let z : ◌≡◌ {A = ℕ} 0 1 = cc in absurd (omega arith)
+    go (Ok o) c false q r d e = let w = rw (c, q) at e in let z : ◌≡◌ {A = ℕ} 0 1 = cc in absurd (omega arith)
+    go (Ok o) c true q (bad x p) d e = let w = rw (c, q, d) at e in let z : ◌≡◌ {A = ℕ} 0 1 = cc in absurd (omega arith)
+    go (Ok o) c true q (fine st') d e =
         let w = rw (c, q, d) at e in
-        let x : sheet_at start n m f ≡ s = cc in
+        let b = sheet_at start o.instances o.arcs o.first_arc in
+        let x : b ≡ s = cc in
         let y : st' ≡ st = cc in
-        let a : history.annotate (records_of (sheet_at start n m f)) (values_of (sheet_at start n m f)) (annotating.said file st') ≡ sheet v = cc in
-        (n, m, f, record { good = c; sheet_is = sym x; read = rw (← y) d; gave = rw (← x, ← y) a })
+        let a : history.annotate (records_of b) (values_of b) (annotating.said file st') ≡ sheet v = cc in
+        (o.instances, o.arcs, o.first_arc, record { good = c; sheet_is = sym x; read = rw (← y) d; gave = rw (← x, ← y) a })
 
 -- 5. Demand 3
 

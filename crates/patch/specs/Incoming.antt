@@ -9,8 +9,7 @@ use Rattle.grammar.specs.Reading.{At}
 use Rattle.grammar.specs.Outcome.{read_cell_of}
 use Rattle.meant.specs.Sound.{total}
 use Rattle.tables.specs.Left.{cells_left, entries_left}
-use Rattle.sheetparts.specs.Form.{check_of}
-use Rattle.sheetparts.specs.declared.SheetCheck.TheVariants.{Good}
+use Rattle.sheetparts.specs.Form.{Good, check_of}
 use Rattle.history.specs.Sheet as history
 use Rattle.history.specs.Sheet.{Values}
 use Rattle.meant.specs.Slots.{values_of, spelled, sheet_at}

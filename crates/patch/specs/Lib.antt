@@ -12,7 +12,10 @@ pub use Rattle.meant.specs.Instances
 pub use Rattle.meant.specs.Says
 pub use Rattle.meant.specs.Where
 pub use Rattle.readcells.specs.Files
-pub use Rattle.readcells.specs.declared.Answer
+pub use Rattle.readcells.specs.declared.Counts
+pub use Rattle.readcells.specs.Counted as ReadCounted
+pub use Rattle.readcells.specs.Refusal
+pub use Rattle.readcells.specs.Tokens
 pub use Rattle.readcells.specs.declared.FileRead
 pub use Rattle.meant.specs.CellList
 pub use Rattle.meant.specs.Annotating

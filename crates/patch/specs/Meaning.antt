@@ -1,14 +1,12 @@
 -- What patching means (document 01, 'Patching' and 'Refusal numbers and their order'): the answer, the current sheet and all four tables.
 -- Assumes nothing.
-use Rattle.std.specs.Prelude.{ℕ, ◌≡◌, Bool, true, false, List, [], ◌∷◌, eqb, ltb, length}
+use Rattle.std.specs.Prelude.{ℕ, ◌≡◌, Bool, true, false, List, [], ◌∷◌, eqb, ltb, length, Ok, Err}
 use Rattle.classes.specs.Choice.{pick, or}
 use Rattle.grammar.specs.Machine.{Res, fine, bad}
 use Rattle.grammar.specs.Reading.{At}
 use Rattle.grammar.specs.Outcome.{read_file, read_cell_of}
 use Rattle.tables.specs.Left.{cells_left, entries_left}
-use Rattle.sheetparts.specs.Form.{check_of}
-use Rattle.sheetparts.specs.declared.SheetCheck.{SheetCheck}
-use Rattle.sheetparts.specs.declared.SheetCheck.TheVariants as check
+use Rattle.sheetparts.specs.Form.{SheetCheck, check_of}
 use Rattle.meant.specs.Same.{same_records}
 use Rattle.history.specs.Events.{Answer}
 use Rattle.history.specs.Sheet.{Slot, Cell}
@@ -57,9 +55,10 @@ module _ (start file : List ℕ) (number : ℕ) (incoming current : List ℕ) wh
   by_file cr ir n m f (bad x q) = unread x q
 
   abbrev pub by_sheet : (cr ir : ℕ) → Res At → SheetCheck → Course
-  by_sheet cr ir r (check.Good n m f) =
-      pick (eqb (length current) (length start)) (pick (same_records start current m f) (by_file cr ir n m f r) (unfit 18)) (unfit 11)
-  by_sheet cr ir r (check.Bad k p) = unfit 10
+  by_sheet cr ir r (Ok o) =
+      pick (eqb (length current) (length start))
+      (pick (same_records start current o.arcs o.first_arc) (by_file cr ir o.instances o.arcs o.first_arc r) (unfit 18)) (unfit 11)
+  by_sheet cr ir r (Err d) = unfit 10
 
   -- 'In patching: 10, 11, 18, file, 17, incoming text, then as annotating.' With room for so many cells and entries of the file and of the incoming text
   unfoldable pub course : (cr ir cr2 ir2 : ℕ) → Course

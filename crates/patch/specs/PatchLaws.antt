@@ -3,7 +3,7 @@
 use Prim.Native.Nat.{ℕ, suc, ◌+◌, ◌-◌, ◌*◌, ◌/◌, ◌<◌, ◌≤◌}
 use Rattle.std.proofs.Math.Path.{◌≡◌, refl, sym, ap}
 use Rattle.std.proofs.Common.{◌∙◌, subst, inl, inr, take_all}
-use Rattle.std.specs.Prelude.{Bool, List, [], ◌∷◌, ◌⊎◌, eqb, ltb, length, get_or}
+use Rattle.std.specs.Prelude.{Bool, List, [], ◌∷◌, ◌⊎◌, eqb, ltb, length, get_or, Result, Ok, Err}
 use Rattle.std.proofs.Math.Bool.{true, false}
 use native.Mathlib.Omega.{arith}
 use Rattle.std.proofs.Math.Nat.{add-zero}
@@ -20,12 +20,11 @@ use Rattle.meant.specs.One.{one_cell, cell_slash}
 use Rattle.tables.specs.Left.{cells_left, entries_left}
 use Rattle.readcells.specs.Files.{FileIs, unit_of}
 use Rattle.readcells.specs.Files as files
-use Rattle.readcells.specs.declared.Answer.TheVariants as answer
+use Rattle.readcells.specs.declared.Counts.{Counts}
+use Rattle.readcells.specs.Refusal.{Refusal}
 use Rattle.readcells.specs.declared.FileRead.{FileRead}
-use Rattle.sheetparts.specs.Form.{check_of}
-use Rattle.sheetparts.specs.declared.SheetCheck.TheVariants.{Good, Bad}
+use Rattle.sheetparts.specs.Form.{Good, faulty, check_of}
 use Rattle.meant.specs.Same.{same_records}
-use Rattle.history.specs.Sheet.{Cell}
 use Rattle.meant.specs.Slots.{values_of, sheet_at}
 use Rattle.meant.specs.Current.{current_spelled}
 use Rattle.meant.specs.Says.{cell_of, cells_of}
@@ -45,6 +44,15 @@ use Rattle.patch.specs.declared.Counted.{Counted}
 use Rattle.patch.specs.Meaning.{said, first_cell, by_cell, by_file, course, answer_of, current_of, file_table, cell_table}
 use Rattle.patch.specs.Counted.{count_of, cells_read, CountedIs}
 use Rattle.patch.specs.Incoming.{ByIncoming, CellPatched}
+
+-- the number and the place of an answer that refuses
+abbrev number_of : Result Counts Refusal → ℕ
+number_of (Ok counts) = 0
+number_of (Err why) = why.number
+
+abbrev place_of : Result Counts Refusal → ℕ
+place_of (Ok counts) = 0
+place_of (Err why) = why.place
 
 -- 1. The incoming text, read as one cell
 
@@ -123,31 +131,34 @@ module _ (b : List ℕ) (n m f : ℕ) (file incoming : List ℕ) (slash : Bool) 
     (cells2 cells2' entries2 entries2' : List ℕ) (r : FileRead)
     (file-is : FileIs (read_cell_of slash unit (length cells2 / 7) (length entries2 / 28) incoming) cells2 cells2' entries2 entries2' r) where
   -- the incoming text's own refusal
-  pub cell_unread : (x q : ℕ) → r.answer ≡ answer.Refused x q → (current : List ℕ)
-      → CellPatched b n m f file incoming slash unit cells entries count k cells2 cells2' entries2 entries2' current current (patched.Refused x q true)
-  cell_unread x q e current bytes good cs is c a v s =
+  pub cell_unread : (why : Refusal) → r.answer ≡ Err why → (current : List ℕ)
+      → CellPatched b n m f file incoming slash unit cells entries count k cells2 cells2' entries2 entries2' current current (patched.Refused why.number why.place true)
+  cell_unread why e current bytes good cs is c a v s =
       go (read_cell_of slash unit (length cells2 / 7) (length entries2 / 28) incoming) (sym e ∙ file-is.says) file-is.cells file-is.entries
     where
-      go : (o : Res At) → answer.Refused x q ≡ files.answer_of o → cells2' ≡ cells_left o cells2 → entries2' ≡ entries_left o entries2
-          → ByIncoming b n m f file incoming slash unit cells entries count k o cs is cells2 cells2' entries2 entries2' current current v (patched.Refused x q true)
+      go : (o : Res At) → Err why ≡ files.answer_of o → cells2' ≡ cells_left o cells2 → entries2' ≡ entries_left o entries2
+          → ByIncoming b n m f file incoming slash unit cells entries count k o cs is cells2 cells2' entries2 entries2' current current v (patched.Refused why.number why.place true)
       go (fine st) e c d = let z : ◌≡◌ {A = ℕ} 0 1 = cc in absurd (omega arith)
-      go (bad y p) e c d = (cc, c, d, refl)
+      go (bad y p) e c d =
+          let a : why.number ≡ y = ap number_of e in
+          let b : why.place ≡ p = ap place_of e in
+          (rw (a, b), c, d, refl)
 
   -- how many cells it has
-  pub none_come : (x q : ℕ) → r.answer ≡ answer.Refused x q → 0 ≡ cells_read (read_cell_of slash unit (length cells2 / 7) (length entries2 / 28) incoming)
-  none_come x q e = ap count_of (sym e ∙ file-is.says)
+  pub none_come : (why : Refusal) → r.answer ≡ Err why → 0 ≡ cells_read (read_cell_of slash unit (length cells2 / 7) (length entries2 / 28) incoming)
+  none_come why e = ap count_of (sym e ∙ file-is.says)
 
-  pub one-comes : (one all : ℕ) → r.answer ≡ answer.Read one all → one ≡ cells_read (read_cell_of slash unit (length cells2 / 7) (length entries2 / 28) incoming)
-  one-comes one all e = ap count_of (sym e ∙ file-is.says)
+  pub one-comes : (counts : Counts) → r.answer ≡ Ok counts → counts.cells ≡ cells_read (read_cell_of slash unit (length cells2 / 7) (length entries2 / 28) incoming)
+  one-comes counts e = ap count_of (sym e ∙ file-is.says)
 
   -- or what the swap of the cell that was read asks
-  pub cell_ready : (one all : ℕ) → r.answer ≡ answer.Read one all → (swap : Swap) → 7 * count ≤ length cells
+  pub cell_ready : (counts : Counts) → r.answer ≡ Ok counts → (swap : Swap) → 7 * count ≤ length cells
       → 28 * entries_before cells count ≤ length entries → k < count → swap.cells ≡ count → swap.outgoing ≡ k → swap.before ≡ entries_before cells k
       → swap.leaving ≡ get_or cells (7 * k + 6) 0 → swap.coming ≡ get_or cells2' 6 0 → SwapReady cells entries cells2' entries2' swap
-  cell_ready one all e swap room room2 h c o before leaving coming =
+  cell_ready counts e swap room room2 h c o before leaving coming =
       go (read_cell_of slash unit (length cells2 / 7) (length entries2 / 28) incoming) refl (sym e ∙ file-is.says) file-is.cells file-is.entries
     where
-      go : (x : Res At) → read_cell_of slash unit (length cells2 / 7) (length entries2 / 28) incoming ≡ x → answer.Read one all ≡ files.answer_of x
+      go : (x : Res At) → read_cell_of slash unit (length cells2 / 7) (length entries2 / 28) incoming ≡ x → Ok counts ≡ files.answer_of x
           → cells2' ≡ cells_left x cells2 → entries2' ≡ entries_left x entries2 → SwapReady cells entries cells2' entries2' swap
       go (bad y q) x e c2 d2 = let z : ◌≡◌ {A = ℕ} 0 1 = cc in absurd (omega arith)
       go (fine st2) x e c2 d2 =
@@ -158,14 +169,14 @@ module _ (b : List ℕ) (n m f : ℕ) (file incoming : List ℕ) (slash : Bool) 
           (subst (λ (y : List ℕ). SwapReady cells entries y (entries_left (fine st2) entries2) swap) (sym c2) w)
 
   -- and what it says
-  pub cell_read : (one all : ℕ) → r.answer ≡ answer.Read one all → k < count → (swap : Swap) → swap.cells ≡ count → swap.outgoing ≡ k
+  pub cell_read : (counts : Counts) → r.answer ≡ Ok counts → k < count → (swap : Swap) → swap.cells ≡ count → swap.outgoing ≡ k
       → (current current' : List ℕ) (a : Patched)
       → SwapRun b n m f file incoming slash cells entries cells2' entries2' swap current current' a
       → CellPatched b n m f file incoming slash unit cells entries count k cells2 cells2' entries2 entries2' current current' a
-  cell_read one all e h swap p o current current' a run bytes good cs is c i v s =
+  cell_read counts e h swap p o current current' a run bytes good cs is c i v s =
       go (read_cell_of slash unit (length cells2 / 7) (length entries2 / 28) incoming) refl (sym e ∙ file-is.says) file-is.cells file-is.entries
     where
-      go : (x : Res At) → read_cell_of slash unit (length cells2 / 7) (length entries2 / 28) incoming ≡ x → answer.Read one all ≡ files.answer_of x
+      go : (x : Res At) → read_cell_of slash unit (length cells2 / 7) (length entries2 / 28) incoming ≡ x → Ok counts ≡ files.answer_of x
           → cells2' ≡ cells_left x cells2 → entries2' ≡ entries_left x entries2
           → ByIncoming b n m f file incoming slash unit cells entries count k x cs is cells2 cells2' entries2 entries2' current current' v a
       go (bad y q) x e c2 d2 = let z : ◌≡◌ {A = ℕ} 0 1 = cc in absurd (omega arith)
@@ -188,7 +199,7 @@ after number place side cells = record { answer = patched.Refused number place s
 
 module _ (start file : List ℕ) (number : ℕ) (incoming current : List ℕ) (cr ir cr2 ir2 : ℕ) (u t u2 t2 : List ℕ) where
   -- 10
-  pub patch-unfit : (k p : ℕ) → check_of start ≡ Bad k p
+  pub patch-unfit : (k p : ℕ) → check_of start ≡ faulty k p
       → CountedIs start (course start file number incoming current cr ir cr2 ir2) u u t t u2 u2 t2 t2 current current (after 10 0 false 0)
   unfolding course answer_of current_of file_table cell_table
   patch-unfit k p e =
@@ -219,22 +230,25 @@ module _ (start file : List ℕ) (number : ℕ) (incoming current : List ℕ) (c
       fits = rw (good, eq-eqb (length current) (length start) same, alike)
 
       -- the file's own refusal
-      pub patch_unread : (x q : ℕ) → r.answer ≡ answer.Refused x q
-          → CountedIs start (course start file number incoming current cr ir cr2 ir2) u u' t t' u2 u2 t2 t2 current current (after x q false 0)
+      pub patch_unread : (why : Refusal) → r.answer ≡ Err why
+          → CountedIs start (course start file number incoming current cr ir cr2 ir2) u u' t t' u2 u2 t2 t2 current current (after why.number why.place false 0)
       unfolding answer_of current_of file_table cell_table
-      patch_unread x q e = rw fits (go (read_file cr ir file) (sym e ∙ file-is.says) file-is.cells file-is.entries)
+      patch_unread why e = rw fits (go (read_file cr ir file) (sym e ∙ file-is.says) file-is.cells file-is.entries)
         where
-          go : (o : Res At) → answer.Refused x q ≡ files.answer_of o → u' ≡ cells_left o u → t' ≡ entries_left o t
-              → CountedIs start (by_file start file number incoming current cr2 ir2 n m f o) u u' t t' u2 u2 t2 t2 current current (after x q false 0)
+          go : (o : Res At) → Err why ≡ files.answer_of o → u' ≡ cells_left o u → t' ≡ entries_left o t
+              → CountedIs start (by_file start file number incoming current cr2 ir2 n m f o) u u' t t' u2 u2 t2 t2 current current (after why.number why.place false 0)
           go (fine st) e c d = let z : ◌≡◌ {A = ℕ} 0 1 = cc in absurd (omega arith)
-          go (bad y p) e c d = (record { says = cc; cells = c; entries = d; incoming_cells = refl; incoming_entries = refl; sheet = refl }, refl, refl)
+          go (bad y p) e c d =
+              let a : why.number ≡ y = ap number_of e in
+              let b : why.place ≡ p = ap place_of e in
+              (record { says = rw (a, b); cells = c; entries = d; incoming_cells = refl; incoming_entries = refl; sheet = refl }, refl, refl)
 
       -- 17
-      pub patch-number : (count all : ℕ) → r.answer ≡ answer.Read count all → (number ≡ 0) ⊎ (count < number)
-          → CountedIs start (course start file number incoming current cr ir cr2 ir2) u u' t t' u2 u2 t2 t2 current current (after 17 0 false count)
+      pub patch-number : (counts : Counts) → r.answer ≡ Ok counts → (number ≡ 0) ⊎ (counts.cells < number)
+          → CountedIs start (course start file number incoming current cr ir cr2 ir2) u u' t t' u2 u2 t2 t2 current current (after 17 0 false counts.cells)
       unfolding answer_of current_of file_table cell_table
-      patch-number count all e h =
-          let l = read_tables start file cr ir u u' t t' current n m f good same r file-is count all e in
+      patch-number counts e h =
+          let l = read_tables start file cr ir u u' t t' current n m f good same r file-is counts e in
           let z : or (eqb number 0) (ltb (length l.0.book.log.cells) number) ≡ true = beyond _ (rw l.5.cells.0 h) in
           rw (fits, l.1, z) (record { says = refl; cells = l.2; entries = l.3; incoming_cells = refl; incoming_entries = refl; sheet = refl }, sym l.5.cells.0, refl)
         where
@@ -247,14 +261,14 @@ module _ (start file : List ℕ) (number : ℕ) (incoming current : List ℕ) (c
           beyond k (inr h) = rw (lt-ltb k number h) (any (eqb number 0))
 
       -- both texts, or the incoming one's refusal
-      pub patch_read : Bytes start → Bytes current → (count all : ℕ) → r.answer ≡ answer.Read count all → 1 ≤ number → number ≤ count
+      pub patch_read : Bytes start → Bytes current → (counts : Counts) → r.answer ≡ Ok counts → 1 ≤ number → number ≤ counts.cells
           → cr2 ≡ length u2 / 7 → ir2 ≡ length t2 / 28 → (u2' t2' current' : List ℕ) (a : Counted)
-          → CellPatched start n m f file incoming r.slash r.unit u' t' count (number - 1) u2 u2' t2 t2' current current' a.answer
-          → a.cells ≡ count → a.incoming ≡ cells_read (read_cell_of r.slash r.unit (length u2 / 7) (length t2 / 28) incoming)
+          → CellPatched start n m f file incoming r.slash r.unit u' t' counts.cells (number - 1) u2 u2' t2 t2' current current' a.answer
+          → a.cells ≡ counts.cells → a.incoming ≡ cells_read (read_cell_of r.slash r.unit (length u2 / 7) (length t2 / 28) incoming)
           → CountedIs start (course start file number incoming current cr ir cr2 ir2) u u' t t' u2 u2' t2 t2' current current' a
       unfolding answer_of current_of file_table cell_table said
-      patch_read bytes also count all e low high p q u2' t2' current' a run counted come =
-          let l = read_tables start file cr ir u u' t t' current n m f good same r file-is count all e in
+      patch_read bytes also counts e low high p q u2' t2' current' a run counted come =
+          let l = read_tables start file cr ir u u' t t' current n m f good same r file-is counts e in
           let st = l.0 in
           let unit : r.unit ≡ st.book.unit = file-is.unit ∙ ap unit_of l.1 in
           let v = values_of (sheet_at current n m f) in
@@ -269,12 +283,12 @@ module _ (start file : List ℕ) (number : ℕ) (incoming current : List ℕ) (c
           ∙ ap (λ (x : ℕ). cells_read (read_cell_of st.book.slash x (length u2 / 7) (length t2 / 28) incoming)) unit))
         where
           turn : (st : At) (slash : Bool) (unit : ℕ) → slash ≡ st.book.slash → unit ≡ st.book.unit
-              → CellPatched start n m f file incoming slash unit u' t' count (number - 1) u2 u2' t2 t2' current current' a.answer
-              → CellPatched start n m f file incoming st.book.slash st.book.unit u' t' count (number - 1) u2 u2' t2 t2' current current' a.answer
+              → CellPatched start n m f file incoming slash unit u' t' counts.cells (number - 1) u2 u2' t2 t2' current current' a.answer
+              → CellPatched start n m f file incoming st.book.slash st.book.unit u' t' counts.cells (number - 1) u2 u2' t2 t2' current current' a.answer
           turn st slash unit p q w = rw (p, q) at w
 
           go : (st : At) → u' ≡ cells_left (fine st) u → t' ≡ entries_left (fine st) t → suc (number - 1) ≡ number → a.cells ≡ length st.book.log.cells → (o : Res At)
-              → ByIncoming start n m f file incoming st.book.slash st.book.unit u' t' count (number - 1) o st.book.log.cells
+              → ByIncoming start n m f file incoming st.book.slash st.book.unit u' t' counts.cells (number - 1) o st.book.log.cells
               st.book.log.items u2 u2' t2 t2' current current' (values_of (sheet_at current n m f)) a.answer → a.incoming ≡ cells_read o
               → CountedIs start (by_cell start file number incoming current n m f st o) u u' t t' u2 u2' t2 t2' current current' a
           go st c d z x (bad y q) w i = (record { says = w.0; cells = c; entries = d; incoming_cells = w.1; incoming_entries = w.2; sheet = w.3 }, x, i)

@@ -1,9 +1,8 @@
 // Patching: one re-issued cell in a sheet that was annotated before (document 01, 'Patching'): its texts are read, then the cell is swapped.
 #![tactic(auto)]
 
-ghost use Rattle.std.specs.Prelude.{◌≡◌, true, ◌*◌, ◌/◌, ◌≤◌, ◌<◌, length};
-ghost use Rattle.sheetparts.specs.Form.{check_of};
-ghost use Rattle.sheetparts.specs.declared.SheetCheck.TheVariants.{Good};
+ghost use Rattle.std.specs.Prelude.{Ok, ◌≡◌, true, ◌*◌, ◌/◌, ◌≤◌, ◌<◌, length};
+ghost use Rattle.sheetparts.specs.Form.{Good, check_of};
 ghost use Rattle.meant.specs.Same.{same_records};
 ghost use Rattle.grammar.specs.Outcome.{read_cell_of};
 ghost use Rattle.meant.specs.Cells.{entries_before};
@@ -14,8 +13,7 @@ ghost use Rattle.patch.specs.Counted.{cells_read, CountedIs};
 
 use meant::entryarcs::Plan;
 use meant::sheet;
-use readcells::Answer;
-use sheetparts::SheetCheck;
+use sheetparts::Outline;
 use swap::Patched;
 use swaparcs::Swap;
 
@@ -35,16 +33,22 @@ pub struct Counted {
     pub incoming: usize,
 }
 
+// The starting sheet, the file that it was annotated from, and the incoming cell's text.
+#[derive(Clone, Copy)]
+struct Texts<'a> {
+    start: &'a [u8],
+    file: &'a [u8],
+    incoming: &'a [u8],
+}
+
 // How many entries the first cells of a table have.
 fn count_entries(cells: &[u64], count: usize) -> usize
     requires { (7 * count ≤ length cells.now) × (28 * entries_before cells.now count < 18446744073709551616) }
     ensures { result ≡ entries_before cells.now count }
 {
     let mut sum = 0;
-    let mut k = 0;
-    while k < count {
+    for k in 0..count {
         sum += cells[7 * k + 6] as usize;
-        k += 1;
     }
     sum
 }
@@ -55,7 +59,7 @@ fn refused_after(number: u8, place: usize, incoming: bool, cells: usize) -> Coun
 {
     Counted {
         answer: swap::refused(number, place, incoming),
-        cells: cells,
+        cells,
         incoming: 0,
     }
 }
@@ -78,26 +82,18 @@ pub fn patch_counted<'a>(
         cells.old cells.new entries.old entries.new cells2.old cells2.new
         entries2.old entries2.new current.old current.new result }
 {
-    let check = sheetform::check_sheet(start);
-    match check {
-        SheetCheck::Bad { number: k, place } => refused_after(10, 0, false, 0),
-        SheetCheck::Good {
-            instances,
-            arcs,
-            first_arc,
-        } => {
-            if current.len() != start.len() {
-                return refused_after(11, 0, false, 0);
-            }
-            if !sheet::same_records(start, current, arcs, first_arc) {
-                return refused_after(18, 0, false, 0);
-            }
-            patch_file(
-                start, file, number, incoming, current, instances, arcs, first_arc, cells, entries,
-                cells2, entries2,
-            )
-        }
+    let Ok(outline) = sheetform::check_sheet(start) else {
+        return refused_after(10, 0, false, 0);
+    };
+    if current.len() != start.len() {
+        return refused_after(11, 0, false, 0);
     }
+    if !sheet::same_records(start, current, outline.arcs, outline.first_arc) {
+        return refused_after(18, 0, false, 0);
+    }
+    patch_file(
+        start, file, number, incoming, current, outline, cells, entries, cells2, entries2,
+    )
 }
 
 // The same, for a caller who does not ask how many cells were read.
@@ -125,34 +121,29 @@ pub fn patch<'a>(
 
 // The two sheets fit: reads the file and looks the cell up.
 fn patch_file<'a>(
-    start: &[u8],
+    start: &'a [u8],
     file: &'a [u8],
     number: usize,
     incoming: &'a [u8],
     current: &mut [u8],
-    instances: usize,
-    arcs: usize,
-    first: usize,
+    outline: Outline,
     cells: &mut [u64],
     entries: &mut [u64],
     cells2: &mut [u64],
     entries2: &mut [u64],
 ) -> Counted
-    requires { (check_of start.now ≡ Good instances arcs first) × (length current.old ≡ length start.now)
-        × (same_records start.now current.old arcs first ≡ true) }
+    requires { (check_of start.now ≡ Ok outline) × (length current.old ≡ length start.now)
+        × (same_records start.now current.old outline.arcs outline.first_arc ≡ true) }
     ensures { CountedIs start.now (course start.now file.now number incoming.now current.old
         (length cells.old / 7) (length entries.old / 28) (length cells2.old / 7) (length entries2.old / 28))
         cells.old cells.new entries.old entries.new cells2.old cells2.new
         entries2.old entries2.new current.old current.new result }
 {
     let read = reader::read_file(file, cells, entries);
-    let answer = read.answer;
-    match answer {
-        Answer::Refused { number: n, place } => refused_after(n, place, false, 0),
-        Answer::Read {
-            cells: count,
-            entries: all,
-        } => {
+    match read.answer {
+        Err(refusal) => refused_after(refusal.number, refusal.place, false, 0),
+        Ok(counts) => {
+            let count = counts.cells;
             if number == 0 {
                 return refused_after(17, 0, false, count);
             }
@@ -160,16 +151,19 @@ fn patch_file<'a>(
                 return refused_after(17, 0, false, count);
             }
             let plan = Plan {
-                instances: instances,
-                arcs: arcs,
-                first: first,
+                instances: outline.instances,
+                arcs: outline.arcs,
+                first: outline.first_arc,
                 slash: read.slash,
             };
-            patch_cell(
+            let texts = Texts {
                 start,
                 file,
-                number - 1,
                 incoming,
+            };
+            patch_cell(
+                texts,
+                number - 1,
                 current,
                 plan,
                 read.unit,
@@ -185,10 +179,8 @@ fn patch_file<'a>(
 
 // The file was read, and has that cell: reads the incoming text and swaps the two.
 fn patch_cell<'a>(
-    start: &[u8],
-    file: &'a [u8],
+    texts: Texts<'a>,
     outgoing: usize,
-    incoming: &'a [u8],
     current: &mut [u8],
     plan: Plan,
     unit: u8,
@@ -198,23 +190,22 @@ fn patch_cell<'a>(
     cells2: &mut [u64],
     entries2: &mut [u64],
 ) -> Counted
-    requires { (check_of start.now ≡ Good plan.instances plan.arcs plan.first) × (length current.old ≡ length start.now)
+    requires { (check_of texts.start.now ≡ Good plan.instances plan.arcs plan.first) × (length current.old ≡ length texts.start.now)
         × (7 * count ≤ length cells.now) × (28 * entries_before cells.now count ≤ length entries.now) × (outgoing < count) }
-    ensures { CellPatched start.now plan.instances plan.arcs plan.first file.now incoming.now plan.slash unit
+    ensures { let t = texts.entry in CellPatched t.start.now plan.instances plan.arcs plan.first t.file.now t.incoming.now plan.slash unit
         cells.now entries.now count outgoing cells2.old cells2.new entries2.old entries2.new
         current.old current.new result.answer × (result.cells ≡ count)
-        × (result.incoming ≡ cells_read (read_cell_of plan.slash unit (length cells2.old / 7) (length entries2.old / 28) incoming.now)) }
+        × (result.incoming ≡ cells_read (read_cell_of plan.slash unit (length cells2.old / 7) (length entries2.old / 28) t.incoming.now)) }
 {
+    let start = texts.start;
+    let file = texts.file;
+    let incoming = texts.incoming;
     let read = onecell::read_cell(incoming, plan.slash, unit, cells2, entries2);
-    let answer = read.answer;
-    match answer {
-        Answer::Refused { number, place } => refused_after(number, place, true, count),
-        Answer::Read {
-            cells: one,
-            entries: all,
-        } => {
+    match read.answer {
+        Err(refusal) => refused_after(refusal.number, refusal.place, true, count),
+        Ok(counts) => {
             let swap = Swap {
-                outgoing: outgoing,
+                outgoing,
                 cells: count,
                 before: count_entries(cells, outgoing),
                 leaving: cells[7 * outgoing + 6] as usize,
@@ -226,7 +217,7 @@ fn patch_cell<'a>(
             Counted {
                 answer: swapped,
                 cells: count,
-                incoming: one,
+                incoming: counts.cells,
             }
         }
     }

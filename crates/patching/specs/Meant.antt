@@ -13,8 +13,7 @@ use Rattle.wire.specs.Wire.{Bytes}
 use Rattle.names.specs.Order.{same_text, front, front-nil}
 use Rattle.names.specs.Name.{canon, full, same_name, last_of, one_below, part_of, both}
 use Rattle.names.specs.Laws.{name_exactly}
-use Rattle.sheetparts.specs.Form.{key_at, path_at, type_at, cmp_key, check_of}
-use Rattle.sheetparts.specs.declared.SheetCheck.TheVariants.{Good}
+use Rattle.sheetparts.specs.Form.{Good, key_at, path_at, type_at, cmp_key, check_of}
 use Rattle.sheetlaws.specs.Sheet.{in_end, nth, place}
 use Rattle.applying.specs.Find.{wanted, key_order, key-same}
 use Rattle.grammar.specs.declared.Entry as read-entry

@@ -18,8 +18,7 @@ use borrow.Author.Tests.{ltb-true, ltb-false, leb-true, eqb-true, eqb-false, lt-
 use Rattle.classes.specs.Choice.{pick, and, or}
 use Rattle.wire.specs.Wire.{Bytes, be64, be_bytes}
 use Rattle.wire.specs.Frame.{number_back, number-before, number_behind}
-use Rattle.sheetparts.specs.Form.{values_at, check_of}
-use Rattle.sheetparts.specs.declared.SheetCheck.TheVariants.{Good}
+use Rattle.sheetparts.specs.Form.{Good, values_at, check_of}
 use Rattle.sheetlaws.specs.Sheet.{place}
 use Rattle.history.specs.Events.{limit, Value, holds, fails, summed, step, final, fails_with, supplied, any_of}
 use Rattle.history.specs.Ranges.{InRange}

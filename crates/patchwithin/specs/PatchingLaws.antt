@@ -1,6 +1,6 @@
 -- The rows that a patch left in a table are the records of the cells that were read; a patch that is lent a part of a table is one that is lent the table.
 -- Assumes nothing.
-use Rattle.std.specs.Prelude.{◌≡◌, Bool, true, false, List, ◌++◌, ℕ, ◌+◌, ◌*◌, ◌/◌, ◌≤◌, ◌<◌, eqb, ltb, length, take, drop}
+use Rattle.std.specs.Prelude.{◌≡◌, Bool, true, false, List, ◌++◌, ℕ, ◌+◌, ◌*◌, ◌/◌, ◌≤◌, ◌<◌, eqb, ltb, length, take, drop, Ok, Err}
 use Rattle.std.proofs.Math.Path.{refl, sym}
 use Rattle.std.proofs.Common.{ap, ◌∙◌, arith, length-take-le, lt-ltb, le-ltb}
 use Rattle.classes.specs.Choice.{pick, or}
@@ -10,9 +10,7 @@ use Rattle.grammar.specs.Reading.{At}
 use Rattle.grammar.specs.Outcome.{read_file, read_cell_of}
 use Rattle.patch.specs.Sound.{read_sound, cell_sound}
 use Rattle.tables.specs.Left.{cells_left}
-use Rattle.sheetparts.specs.Form.{check_of}
-use Rattle.sheetparts.specs.declared.SheetCheck.{SheetCheck}
-use Rattle.sheetparts.specs.declared.SheetCheck.TheVariants as check
+use Rattle.sheetparts.specs.Form.{SheetCheck, check_of}
 use Rattle.patch.specs.Same.{same_records}
 use Rattle.cellrecords.specs.Records.{records_of}
 use Rattle.readrecords.specs.Reading.{room_for, records_left}
@@ -78,13 +76,13 @@ module _ (start file : List ℕ) (number : ℕ) (incoming current : List ℕ) wh
   sound_file cr ir n m f (bad x q) a = (none x q, none x q)
 
   sound_sheet : (cr ir : ℕ) (o : Res At) → Sounds o → (s : SheetCheck) → Sound (by_sheet start file number incoming current cr ir o s)
-  sound_sheet cr ir o a (check.Good n m f) = by (eqb (length current) (length start)) (same_records start current m f)
+  sound_sheet cr ir o a (Ok g) = by (eqb (length current) (length start)) (same_records start current g.arcs g.first_arc)
     where
-      by : (x y : Bool) → Sound (pick x (pick y (by_file start file number incoming current cr ir n m f o) (unfit 18)) (unfit 11))
-      by true true = sound_file cr ir n m f o a
+      by : (x y : Bool) → Sound (pick x (pick y (by_file start file number incoming current cr ir g.instances g.arcs g.first_arc o) (unfit 18)) (unfit 11))
+      by true true = sound_file cr ir g.instances g.arcs g.first_arc o a
       by true false = (none 18 0, none 18 0)
       by false y = (none 11 0, none 11 0)
-  sound_sheet cr ir o a (check.Bad k p) = (none 10 0, none 10 0)
+  sound_sheet cr ir o a (Err d) = (none 10 0, none 10 0)
 
   sound_course : (cr ir cr2 ir2 : ℕ) → Sound (course start file number incoming current cr ir cr2 ir2)
   unfolding course

@@ -1,14 +1,15 @@
 -- All cells of a text: the rules of the loop over them.
 -- Assumes nothing.
-use Rattle.std.specs.Prelude.{◌≡◌, refl, Bool, true, false, List, [], ◌∷◌, ◌++◌, ℕ, ◌+◌, ◌-◌, ◌*◌, ◌≤◌, ◌<◌, length}
+use Rattle.std.specs.Prelude.{◌≡◌, refl, Bool, true, false, List, [], ◌∷◌, ◌++◌, ℕ, ◌+◌, ◌-◌, ◌*◌, ◌≤◌, ◌<◌, length, Result, Ok, Err}
 use Rattle.std.proofs.Common.{ap, ◌∙◌, sym, arith, length-append}
 use Rattle.tokens.specs.Stream.{part}
+use Rattle.grammar.specs.Answers.{HandAt}
+use Rattle.tokenforms.specs.declared.Refusal.{Refusal}
+use Rattle.tokenforms.specs.Tokens.{Refused}
 use Rattle.grammar.specs.Ll.{non}
 use Rattle.grammar.specs.Machine.{Res, fine, bad}
 use Rattle.grammar.specs.declared.Cell.{Cell}
-use Rattle.grammar.specs.declared.Mark.TheVariants as mark
 use Rattle.grammar.specs.declared.Hand.{Hand}
-use Rattle.grammar.specs.declared.Hand.TheVariants as hand
 use Rattle.grammar.specs.Grammar.{header}
 use Rattle.grammar.specs.Meaning.{Item, tidy, wrongly}
 use Rattle.grammar.specs.Reading.{At}
@@ -19,47 +20,47 @@ use Rattle.tables.specs.Layout.{cell_row, cell_rows, cells-more, entry_rows, ent
 use Rattle.tables.specs.Pastes.{put, put-none, put-put}
 use Rattle.readcells.specs.declared.More.{More}
 use Rattle.readcells.specs.declared.More.TheVariants as mr
-use Rattle.readcells.specs.declared.Answer.{Answer}
-use Rattle.readcells.specs.declared.Answer.TheVariants as answer
+use Rattle.readcells.specs.declared.Counts.{Counts}
+use Rattle.readcells.specs.Counted.{Read}
 use Rattle.readcells.specs.Whole.{TailDone, TailNot, filled_cells, more_to, MoreRead, EndRead, cell_full, cell_word_lem, cell-wrong}
 
 -- at the first cell's keyword, with this in hand
-abbrev pub at_cells : List ℕ → Hand → Bool → ℕ → ℕ → ℕ → List ℕ → List Cell → List Item → Res At
+abbrev pub at_cells : List ℕ → Result Hand Refusal → Bool → ℕ → ℕ → ℕ → List ℕ → List Cell → List Item → Res At
 at_cells s h d unit cr ir ts cs is = holds s h (state (non (header 10 d) ∷ []) true d unit cr ir (tidy ts cs is))
 
 -- n cells with m entries have been read, and this is in hand
-abbrev pub Along : List ℕ → Hand → Bool → ℕ → ℕ → ℕ → Hand → ℕ → ℕ → List Cell → List Item → Type 0
+abbrev pub Along : List ℕ → Result Hand Refusal → Bool → ℕ → ℕ → ℕ → Result Hand Refusal → ℕ → ℕ → List Cell → List Item → Type 0
 Along s h0 d unit cr ir h n m cs is = (ts : List ℕ) → at_cells s h0 d unit cr ir ts [] [] ≡ at_cells s h d unit (cr - n) (ir - m) ts cs is
 
 -- all cells, and the text's end
-abbrev pub CellsDone : List ℕ → Hand → Bool → ℕ → ℕ → ℕ → ℕ → ℕ → List Cell → List Item → Type 0
+abbrev pub CellsDone : List ℕ → Result Hand Refusal → Bool → ℕ → ℕ → ℕ → ℕ → ℕ → List Cell → List Item → Type 0
 CellsDone s h0 d unit cr ir n m cs is =
     (ts : List ℕ) → at_cells s h0 d unit cr ir ts [] [] ≡ fine (state [] false d unit (cr - n) (ir - m) (tidy ts cs is))
 
-abbrev pub CellsNot : List ℕ → Hand → Bool → ℕ → ℕ → ℕ → ℕ → ℕ → Type 0
+abbrev pub CellsNot : List ℕ → Result Hand Refusal → Bool → ℕ → ℕ → ℕ → ℕ → ℕ → Type 0
 CellsNot s h0 d unit cr ir k q = (ts : List ℕ) → at_cells s h0 d unit cr ir ts [] [] ≡ bad k q
 
-abbrev pub CellsRead : List ℕ → Hand → Bool → ℕ → ℕ → ℕ → Bool → List ℕ → List ℕ → List ℕ → List ℕ → Answer → Type 0
-CellsRead s h0 d unit cr ir fill u u' t t' (answer.Read n m) =
-    (cs : List Cell) × (is : List Item) × (length cs ≡ n) × (length is ≡ m) × CellsDone s h0 d unit cr ir n m cs is
+abbrev pub CellsRead : List ℕ → Result Hand Refusal → Bool → ℕ → ℕ → ℕ → Bool → List ℕ → List ℕ → List ℕ → List ℕ → Result Counts Refusal → Type 0
+CellsRead s h0 d unit cr ir fill u u' t t' (Ok counts) =
+    (cs : List Cell) × (is : List Item) × (length cs ≡ counts.cells) × (length is ≡ counts.entries) × CellsDone s h0 d unit cr ir counts.cells counts.entries cs is
     × (u' ≡ filled_cells fill u 0 cs) × (t' ≡ filled fill t 0 is)
-CellsRead s h0 d unit cr ir fill u u' t t' (answer.Refused k q) =
-    CellsNot s h0 d unit cr ir k q × (fill ≡ false → (u' ≡ u) × (t' ≡ t))
+CellsRead s h0 d unit cr ir fill u u' t t' (Err why) =
+    CellsNot s h0 d unit cr ir why.number why.place × (fill ≡ false → (u' ≡ u) × (t' ≡ t))
 
 -- behind the file's closing bracket: the answer for n cells with m entries, by what ends the text
-abbrev pub Finished : List ℕ → ℕ → ℕ → ℕ → Answer → Type 0
-Finished s p n m (answer.Read c i) = (c ≡ n) × (i ≡ m) × ((q : ℕ) × EndRead s p (mark.At q))
-Finished s p n m (answer.Refused k q) = EndRead s p (mark.Refused k q)
+abbrev pub Finished : List ℕ → ℕ → ℕ → ℕ → Result Counts Refusal → Type 0
+Finished s p n m (Ok counts) = (counts.cells ≡ n) × (counts.entries ≡ m) × ((q : ℕ) × EndRead s p (Ok q))
+Finished s p n m (Err why) = EndRead s p (Refused why.number why.place)
 
-pub along-start : (s : List ℕ) (h : Hand) (d : Bool) (unit cr ir : ℕ) → Along s h d unit cr ir h 0 0 [] []
+pub along-start : (s : List ℕ) (h : Result Hand Refusal) (d : Bool) (unit cr ir : ℕ) → Along s h d unit cr ir h 0 0 [] []
 along-start s h d unit cr ir = λ ts. let a : cr - 0 ≡ cr = omega arith in let b : ir - 0 ≡ ir = omega arith in rw (a, b)
 
-pub along_refused : (s : List ℕ) (h0 : Hand) (d : Bool) (unit cr ir k q n m : ℕ) (cs : List Cell) (is : List Item) →
-    Along s h0 d unit cr ir (hand.Refused k q) n m cs is → CellsNot s h0 d unit cr ir k q
+pub along_refused : (s : List ℕ) (h0 : Result Hand Refusal) (d : Bool) (unit cr ir k q n m : ℕ) (cs : List Cell) (is : List Item) →
+    Along s h0 d unit cr ir (Refused k q) n m cs is → CellsNot s h0 d unit cr ir k q
 along_refused s h0 d unit cr ir k q n m cs is a = a
 
-module _ (s : List ℕ) (h0 : Hand) (d : Bool) (unit cr ir n m : ℕ) (cs : List Cell) (is : List Item) (p k b e v : ℕ) (long : Bool)
-    (i : InHand s (hand.At p k b e long v)) (a : Along s h0 d unit cr ir (hand.At p k b e long v) n m cs is) where
+module _ (s : List ℕ) (h0 : Result Hand Refusal) (d : Bool) (unit cr ir n m : ℕ) (cs : List Cell) (is : List Item) (p k b e v : ℕ) (long : Bool)
+    (i : InHand s (HandAt p k b e long v)) (a : Along s h0 d unit cr ir (HandAt p k b e long v) n m cs is) where
   pub along-wrong : (w : ℕ) → (v ≡ 53 → ⊥) → w ≡ wrongly true k (part b e s) → CellsNot s h0 d unit cr ir w b
   along-wrong w z q = λ ts. a ts ∙ cell-wrong s p k b e v long i d w z q [] unit (cr - n) (ir - m) _
 
@@ -70,7 +71,7 @@ module _ (s : List ℕ) (h0 : Hand) (d : Bool) (unit cr ir n m : ℕ) (cs : List
     pub along_tail_not : (j q : ℕ) → TailNot s e d unit (ir - m) b j q → CellsNot s h0 d unit cr ir j q
     along_tail_not j q u = λ ts. a ts ∙ cell_word_lem s p k b e v long i d z [] unit (cr - n) (ir - m) ts cs is (λ y. omega arith) ∙ u _ (cr - n - 1) ts cs is
 
-    module _ (x : ℕ) (c : Cell) (js : List Item) (u : TailDone s e d unit (ir - m) b x c js) (r : More) (w : MoreRead s x d r) where
+    module _ (x : ℕ) (c : Cell) (js : List Item) (u : TailDone s e d unit (ir - m) b x c js) (r : Result More Refusal) (w : MoreRead s x d r) where
       onto : (ts : List ℕ) → at_cells s h0 d unit cr ir ts [] [] ≡ more_to s r [] d unit (cr - (n + 1)) (ir - (m + length js)) (tidy ts (cs ++ c ∷ []) (is ++ js))
       onto ts =
           let f : cr - n - 1 ≡ cr - (n + 1) = omega arith in
@@ -78,18 +79,18 @@ module _ (s : List ℕ) (h0 : Hand) (d : Bool) (unit cr ir n m : ℕ) (cs : List
           a ts ∙ cell_word_lem s p k b e v long i d z [] unit (cr - n) (ir - m) ts cs is (λ y. omega arith) ∙ u _ (cr - n - 1) ts cs is ∙ rw (f, g) (w.0 [] unit _ _ _)
 
     module _ (x : ℕ) (c : Cell) (js : List Item) (u : TailDone s e d unit (ir - m) b x c js) where
-      pub along-more-not : (j q : ℕ) → MoreRead s x d (mr.Refused j q) → CellsNot s h0 d unit cr ir j q
-      along-more-not j q w = λ ts. onto x c js u (mr.Refused j q) w ts
+      pub along-more-not : (j q : ℕ) → MoreRead s x d (Refused j q) → CellsNot s h0 d unit cr ir j q
+      along-more-not j q w = λ ts. onto x c js u (Refused j q) w ts
 
-      pub along-next : (h : Hand) (o : ℕ) → length js ≡ o → MoreRead s x d (mr.Next h) → Along s h0 d unit cr ir h (n + 1) (m + o) (cs ++ c ∷ []) (is ++ js)
-      along-next h o y w = λ ts. onto x c js u (mr.Next h) w ts ∙ rw y
+      pub along-next : (h : Hand) (o : ℕ) → length js ≡ o → MoreRead s x d (Ok (mr.Next h)) → Along s h0 d unit cr ir (Ok h) (n + 1) (m + o) (cs ++ c ∷ []) (is ++ js)
+      along-next h o y w = λ ts. onto x c js u (Ok (mr.Next h)) w ts ∙ rw y
 
-      pub along_last : (y o q : ℕ) → length js ≡ o → MoreRead s x d (mr.Last y) → EndRead s y (mark.At q) →
+      pub along_last : (y o q : ℕ) → length js ≡ o → MoreRead s x d (Ok (mr.Last y)) → EndRead s y (Ok q) →
           CellsDone s h0 d unit cr ir (n + 1) (m + o) (cs ++ c ∷ []) (is ++ js)
-      along_last y o q f w g = λ ts. onto x c js u (mr.Last y) w ts ∙ g d unit _ _ _ ∙ rw f
+      along_last y o q f w g = λ ts. onto x c js u (Ok (mr.Last y)) w ts ∙ g d unit _ _ _ ∙ rw f
 
-      pub along-after : (y j q : ℕ) → MoreRead s x d (mr.Last y) → EndRead s y (mark.Refused j q) → CellsNot s h0 d unit cr ir j q
-      along-after y j q w g = λ ts. onto x c js u (mr.Last y) w ts ∙ g d unit _ _ _
+      pub along-after : (y j q : ℕ) → MoreRead s x d (Ok (mr.Last y)) → EndRead s y (Refused j q) → CellsNot s h0 d unit cr ir j q
+      along-after y j q w g = λ ts. onto x c js u (Ok (mr.Last y)) w ts ∙ g d unit _ _ _
 
 -- the tables with one cell more
 pub cells-none : (fill : Bool) (u : List ℕ) → filled_cells fill u 0 [] ≡ u
@@ -140,11 +141,11 @@ more-cells n cs c e = length-append cs (c ∷ []) ∙ ap (λ z. z + 1) e
 pub more_items : (m o : ℕ) (is js : List Item) → length is ≡ m → length js ≡ o → length (is ++ js) ≡ m + o
 more_items m o is js e f = length-append is js ∙ rw (e, f)
 
-module _ (s : List ℕ) (h0 : Hand) (d : Bool) (unit cr ir n m : ℕ) (cs : List Cell) (is : List Item) (fill : Bool) (u u' t t' : List ℕ)
+module _ (s : List ℕ) (h0 : Result Hand Refusal) (d : Bool) (unit cr ir n m : ℕ) (cs : List Cell) (is : List Item) (fill : Bool) (u u' t t' : List ℕ)
     (a : length cs ≡ n) (b : length is ≡ m) (f : u' ≡ filled_cells fill u 0 cs) (g : t' ≡ filled fill t 0 is) where
   -- what ends the text gives the answer
-  pub finished-cells : (y : ℕ) → ((q : ℕ) → EndRead s y (mark.At q) → CellsDone s h0 d unit cr ir n m cs is) →
-      ((j q : ℕ) → EndRead s y (mark.Refused j q) → CellsNot s h0 d unit cr ir j q) → (r : Answer) → Finished s y n m r →
+  pub finished-cells : (y : ℕ) → ((q : ℕ) → EndRead s y (Ok q) → CellsDone s h0 d unit cr ir n m cs is) →
+      ((j q : ℕ) → EndRead s y (Refused j q) → CellsNot s h0 d unit cr ir j q) → (r : Result Counts Refusal) → Finished s y n m r →
       CellsRead s h0 d unit cr ir fill u u' t t' r
-  finished-cells y good ill (answer.Read c i) w = (cs, is, a ∙ sym w.0, b ∙ sym w.1, rw (w.0, w.1) (good w.2.0 w.2.1), f, g)
-  finished-cells y good ill (answer.Refused j q) w = (ill j q w, λ e. (f ∙ rw e, g ∙ rw e))
+  finished-cells y good ill (Ok counts) w = (cs, is, a ∙ sym w.0, b ∙ sym w.1, rw (w.0, w.1) (good w.2.0 w.2.1), f, g)
+  finished-cells y good ill (Err why) w = (ill why.number why.place w, λ e. (f ∙ rw e, g ∙ rw e))

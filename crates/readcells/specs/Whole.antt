@@ -1,24 +1,22 @@
 -- Whole cells, one after the other, up to the end of the text: contracts and rules.
 -- Assumes nothing.
-use Rattle.std.specs.Prelude.{◌≡◌, Bool, false, List, [], ◌∷◌, ◌++◌, ℕ, ◌+◌, ◌-◌, ◌*◌, ◌≤◌, eqb, leb, length}
+use Rattle.std.specs.Prelude.{◌≡◌, Bool, false, List, [], ◌∷◌, ◌++◌, ℕ, ◌+◌, ◌-◌, ◌*◌, ◌≤◌, eqb, leb, length, Result, Ok, Err}
 use Rattle.std.proofs.Math.Path.{refl, sym}
 use Rattle.std.proofs.Common.{◌∙◌, append-nil, arith, length-append}
 use Rattle.std.proofs.Math.Bool.{true}
 use borrow.Author.Tests.{eq-eqb, ne_eqb, eqb-true, leb-true}
 use Rattle.classes.specs.Choice.{pick, and, within}
-use Rattle.tokenforms.specs.declared.Token.TheVariants.{Got, Stop}
+use Rattle.tokenforms.specs.Tokens.{Got, Refused}
 use Rattle.tokenforms.specs.Tokens.{token_at}
 use Rattle.tokens.specs.Stream.{placed, part}
 use Rattle.words.specs.Words.{key_of}
+use Rattle.grammar.specs.Answers.{HandAt}
+use Rattle.tokenforms.specs.declared.Refusal.{Refusal}
 use Rattle.grammar.specs.Ll.{lit, non}
 use Rattle.grammar.specs.Machine.{Res, fine, bad}
 use Rattle.grammar.specs.declared.Cell.{Cell}
-use Rattle.grammar.specs.declared.Mark.{Mark}
-use Rattle.grammar.specs.declared.Mark.TheVariants as mark
 use Rattle.grammar.specs.declared.Hand.{Hand}
-use Rattle.grammar.specs.declared.Hand.TheVariants as hand
 use Rattle.grammar.specs.declared.ReadBody.{ReadBody}
-use Rattle.grammar.specs.declared.ReadBody.TheVariants as body
 use Rattle.grammar.specs.Grammar.{alts, header, more, cell_tail, keys, key, cell, ◌‼◌, ◌⇒◌}
 use Rattle.grammar.specs.Meaning.{Log, Item, begins, celled, pathed, typed, finished, tidy, wrongly}
 use Rattle.grammar.specs.Reading.{At, reading, goes, halts, turn}
@@ -29,7 +27,7 @@ use Rattle.headsteps.specs.Short.{short}
 use Rattle.headsteps.specs.Steps.{Takes}
 use Rattle.cells.specs.Cells.{after, BodyDone, BodyNot, filled}
 use Rattle.cellhead.specs.Heads.{HeadRead}
-use Rattle.cellhead.specs.declared.CellHead.TheVariants as ch
+use Rattle.cellhead.specs.declared.CellHead.{CellHead}
 use Rattle.tables.specs.Layout.{cell_rows}
 use Rattle.tables.specs.Pastes.{put}
 use Rattle.readcells.specs.declared.More.{More}
@@ -57,12 +55,12 @@ TailNot s p d unit room pl n q =
 abbrev pub filled_cells : Bool → List ℕ → ℕ → List Cell → List ℕ
 filled_cells fill u row cs = pick fill (put u (7 * row) (cell_rows cs)) u
 
-abbrev pub TailRead : List ℕ → ℕ → Bool → ℕ → ℕ → ℕ → Bool → ℕ → List ℕ → List ℕ → ℕ → List ℕ → List ℕ → ReadBody → Type 0
-TailRead s p d unit room pl fill crow u u' row t t' (body.Done e n) =
-    (c : Cell) × (js : List Item) × (length js ≡ n) × TailDone s p d unit room pl e c js × (n ≤ room) × (e ≤ length s)
+abbrev pub TailRead : List ℕ → ℕ → Bool → ℕ → ℕ → ℕ → Bool → ℕ → List ℕ → List ℕ → ℕ → List ℕ → List ℕ → Result ReadBody Refusal → Type 0
+TailRead s p d unit room pl fill crow u u' row t t' (Ok body) =
+    (c : Cell) × (js : List Item) × (length js ≡ body.count) × TailDone s p d unit room pl body.end c js × (body.count ≤ room) × (body.end ≤ length s)
     × (t' ≡ filled fill t row js) × (u' ≡ filled_cells fill u crow (c ∷ []))
-TailRead s p d unit room pl fill crow u u' row t t' (body.Refused n q) =
-    TailNot s p d unit room pl n q × (fill ≡ false → (t' ≡ t) × (u' ≡ u))
+TailRead s p d unit room pl fill crow u u' row t t' (Err why) =
+    TailNot s p d unit room pl why.number why.place × (fill ≡ false → (t' ≡ t) × (u' ≡ u))
 
 -- what a cell's closing bracket leaves
 closes-cell : (pl b e k f t : ℕ) (ts : List ℕ) (cs : List Cell) (is js : List Item) →
@@ -74,67 +72,74 @@ closes-cell pl b e k f t ts cs is (j ∷ js) =
     let z : length (is ++ j ∷ js) - length is ≡ length (j ∷ js) = (let y = length-append is (j ∷ js) in omega arith) in rw z
 
 module _ (s : List ℕ) (p : ℕ) (d : Bool) (unit room pl : ℕ) where
-  pub tail_head_not : (n q : ℕ) → HeadRead s p d (ch.Refused n q) → TailNot s p d unit room pl n q
+  pub tail_head_not : (n q : ℕ) → HeadRead s p d (Refused n q) → TailNot s p d unit room pl n q
   tail_head_not n q u = λ ss cr ts cs is. u ss unit cr room _
 
-  module _ (b e k f t q : ℕ) (u : HeadRead s p d (ch.Head b e k f t q)) where
-    pub tail_body_not : (n x : ℕ) → BodyNot s q d unit room n x → TailNot s p d unit room pl n x
+  module _ (h : CellHead) (u : HeadRead s p d (Ok h)) where
+    pub tail_body_not : (n x : ℕ) → BodyNot s h.end d unit room n x → TailNot s p d unit room pl n x
     tail_body_not n x v = λ ss cr ts cs is. u.0 ss unit cr room _ ∙ v ss cr _
 
-    pub tail_done : (x n : ℕ) (js : List Item) → length js ≡ n → BodyDone s q d unit room x n js → TailDone s p d unit room pl x (cell_at pl b e k f t n) js
+    pub tail_done : (x n : ℕ) (js : List Item) → length js ≡ n → BodyDone s h.end d unit room x n js →
+        TailDone s p d unit room pl x (cell_at pl h.typefrom h.typeto h.sort h.pathfrom h.pathto n) js
     tail_done x n js m v = λ ss cr ts cs is.
-        u.0 ss unit cr room _ ∙ v ss cr _ ∙ rw (← m, closes-cell pl b e k f t ts cs is js)
+        u.0 ss unit cr room _ ∙ v ss cr _ ∙ rw (← m, closes-cell pl h.typefrom h.typeto h.sort h.pathfrom h.pathto ts cs is js)
 
 -- BEHIND A CELL: the next one's keyword in hand, or the file's closing bracket
-abbrev pub more_to : List ℕ → More → Stack → Bool → ℕ → ℕ → ℕ → Log → Res At
-more_to s (mr.Next h) ss d unit cr ir l = holds s h (state (non (header 10 d) ∷ ss) true d unit cr ir l)
-more_to s (mr.Last e) ss d unit cr ir l = reading s (state ss false d unit cr ir l) e
-more_to s (mr.Refused n q) ss d unit cr ir l = bad n q
+abbrev pub more_to : List ℕ → Result More Refusal → Stack → Bool → ℕ → ℕ → ℕ → Log → Res At
+more_to s (Ok (mr.Next h)) ss d unit cr ir l = holds s (Ok h) (state (non (header 10 d) ∷ ss) true d unit cr ir l)
+more_to s (Ok (mr.Last e)) ss d unit cr ir l = reading s (state ss false d unit cr ir l) e
+more_to s (Err why) ss d unit cr ir l = bad why.number why.place
 
-abbrev pub MoreIn : List ℕ → More → Type 0
-MoreIn s (mr.Next h) = InHand s h
-MoreIn s (mr.Last e) = e ≤ length s
-MoreIn s (mr.Refused n q) = Unit {0}
+abbrev pub MoreIn : List ℕ → Result More Refusal → Type 0
+MoreIn s (Ok (mr.Next h)) = InHand s (Ok h)
+MoreIn s (Ok (mr.Last e)) = e ≤ length s
+MoreIn s (Err why) = Unit {0}
 
-abbrev pub MoreRead : List ℕ → ℕ → Bool → More → Type 0
+abbrev pub MoreRead : List ℕ → ℕ → Bool → Result More Refusal → Type 0
 MoreRead s p d r =
     ((ss : Stack) (unit cr ir : ℕ) (l : Log) → reading s (state (non (more d) ∷ ss) false d unit cr ir l) p ≡ more_to s r ss d unit cr ir l) × MoreIn s r
 
-pub more-stops : (s : List ℕ) (p n q : ℕ) (d : Bool) → p ≤ length s → token_at s p ≡ Stop n q → MoreRead s p d (mr.Refused n q)
+-- a token in hand is the next cell's keyword, or what stands in its place
+abbrev pub next : Result Hand Refusal → Result More Refusal
+next (Ok hand) = Ok (mr.Next hand)
+next (Err why) = Err why
+
+pub more-stops : (s : List ℕ) (p n q : ℕ) (d : Bool) → p ≤ length s → token_at s p ≡ Refused n q → MoreRead s p d (Refused n q)
 more-stops s p n q d h t = (λ ss unit cr ir l. halts s _ ss _ p n q h t, tt)
 
 module _ (s : List ℕ) (p k b e : ℕ) (long : Bool) (h : p ≤ length s) (tok : token_at s p ≡ Got k b e long) (d : Bool) where
-  pub more_last : k ≡ 3 → MoreRead s p d (mr.Last e)
+  pub more_last : k ≡ 3 → MoreRead s p d (Ok (mr.Last e))
   unfolding alts
   more_last q = (λ ss unit cr ir l. goes s _ p 3 b e long (fine _) h (rw q at tok) refl, (ahead s p k b e long h tok).1)
 
-  pub more-next : (r : Hand) → k ≡ 2 → Takes s e [] true r → MoreRead s p d (mr.Next r)
+  pub more-next : (r : Result Hand Refusal) → k ≡ 2 → Takes s e [] true r → MoreRead s p d (next r)
   unfolding alts
-  more-next r q u = (λ ss unit cr ir l. goes s _ p 2 b e long (fine _) h (rw q at tok) refl ∙ u.0 _ ss d unit cr ir l, u.1)
+  more-next (Ok hand) q u = (λ ss unit cr ir l. goes s _ p 2 b e long (fine _) h (rw q at tok) refl ∙ u.0 _ ss d unit cr ir l, u.1)
+  more-next (Err why) q u = (λ ss unit cr ir l. goes s _ p 2 b e long (fine _) h (rw q at tok) refl ∙ u.0 _ ss d unit cr ir l, tt)
 
-  pub more-wrong : (k ≡ 3 → ⊥) → (k ≡ 2 → ⊥) → MoreRead s p d (mr.Refused 4 b)
+  pub more-wrong : (k ≡ 3 → ⊥) → (k ≡ 2 → ⊥) → MoreRead s p d (Refused 4 b)
   unfolding alts
   more-wrong x y = (λ ss unit cr ir l. goes s _ p k b e long (bad 4 b) h tok (rw (ne_eqb k 3 x, ne_eqb k 2 y)), tt)
 
 -- AT THE END: nothing may stand there
-abbrev pub ended_to : Mark → At → Res At
-ended_to (mark.At e) st = fine st
-ended_to (mark.Refused n q) st = bad n q
+abbrev pub ended_to : Result ℕ Refusal → At → Res At
+ended_to (Ok e) st = fine st
+ended_to (Err why) st = bad why.number why.place
 
-abbrev pub EndRead : List ℕ → ℕ → Mark → Type 0
+abbrev pub EndRead : List ℕ → ℕ → Result ℕ Refusal → Type 0
 EndRead s p r = (d : Bool) (unit cr ir : ℕ) (l : Log) → reading s (state [] false d unit cr ir l) p ≡ ended_to r (state [] false d unit cr ir l)
 
-pub end_here : (s : List ℕ) (p n q : ℕ) → p ≤ length s → token_at s p ≡ Stop n q → n ≡ 4 → EndRead s p (mark.At q)
+pub end_here : (s : List ℕ) (p n q : ℕ) → p ≤ length s → token_at s p ≡ Refused n q → n ≡ 4 → EndRead s p (Ok q)
 end_here s p n q h t z = λ d unit cr ir l. turn s _ p h ∙ rw (t, z)
 
-pub end_stops : (s : List ℕ) (p n q : ℕ) → p ≤ length s → token_at s p ≡ Stop n q → (n ≡ 4 → ⊥) → EndRead s p (mark.Refused n q)
+pub end_stops : (s : List ℕ) (p n q : ℕ) → p ≤ length s → token_at s p ≡ Refused n q → (n ≡ 4 → ⊥) → EndRead s p (Refused n q)
 end_stops s p n q h t z = λ d unit cr ir l. turn s _ p h ∙ rw (t, ne_eqb n 4 z)
 
-pub end_more : (s : List ℕ) (p k b e : ℕ) (long : Bool) → p ≤ length s → token_at s p ≡ Got k b e long → EndRead s p (mark.Refused 4 b)
+pub end_more : (s : List ℕ) (p k b e : ℕ) (long : Bool) → p ≤ length s → token_at s p ≡ Got k b e long → EndRead s p (Refused 4 b)
 end_more s p k b e long h tok = λ d unit cr ir l. goes s _ p k b e long (bad 4 b) h tok refl
 
 -- THE WORD CELL in hand, where it has to stand: behind the bracket of a cell by itself, and in a file
-module _ (s : List ℕ) (p k b e v : ℕ) (long : Bool) (i : InHand s (hand.At p k b e long v)) (d : Bool) where
+module _ (s : List ℕ) (p k b e v : ℕ) (long : Bool) (i : InHand s (HandAt p k b e long v)) (d : Bool) where
   a_word : v ≡ 53 → k ≡ 7
   a_word z = by (eqb k 7) refl
     where

@@ -1,12 +1,12 @@
 -- What the entry points leave in the records that the caller lends.
 -- Assumes nothing.
-use Rattle.std.specs.Prelude.{◌≡◌, List, ◌++◌, ℕ, ◌+◌, ◌/◌, ◌≤◌, ltb, length, drop}
+use Rattle.std.specs.Prelude.{◌≡◌, List, ◌++◌, ℕ, ◌+◌, ◌/◌, ◌≤◌, ltb, length, drop, Result, Ok, Err}
 use Rattle.classes.specs.Choice.{pick}
 use Rattle.grammar.specs.declared.Cell.{Cell}
 use Rattle.grammar.specs.Machine.{Res, fine, bad}
 use Rattle.grammar.specs.Reading.{At}
-use Rattle.readcells.specs.declared.Answer.{Answer}
-use Rattle.readcells.specs.declared.Answer.TheVariants as answer
+use Rattle.readcells.specs.declared.Counts.{Counts}
+use Rattle.readcells.specs.Refusal.{Refusal}
 use Rattle.readcells.specs.declared.FileRead.{FileRead}
 use Rattle.readcells.specs.Files.{FileIs}
 
@@ -15,9 +15,9 @@ abbrev pub room_for : ℕ → ℕ → ℕ
 room_for words n = pick (ltb n (words / 7)) n (words / 7)
 
 -- how many cells were read: none of a refused text
-abbrev pub count_of : Answer → ℕ
-count_of (answer.Read n m) = n
-count_of (answer.Refused k q) = 0
+abbrev pub count_of : Result Counts Refusal → ℕ
+count_of (Ok counts) = counts.cells
+count_of (Err why) = 0
 
 -- 'Room after the last record is left as lent'; 'Tables of a text refused .. are as lent'
 abbrev pub records_left : Res At → List Cell → List Cell

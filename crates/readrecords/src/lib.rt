@@ -6,7 +6,7 @@ ghost use Rattle.grammar.specs.Outcome.{read_file, read_cell_of};
 ghost use Rattle.readrecords.specs.Reading.{room_for, count_of, WithinIs, RecordsAre};
 
 use grammar::Cell;
-use readcells::{Answer, FileRead};
+use readcells::FileRead;
 
 // The core's reader, where so many cells have a record: it is lent the part of the table that has a row for each.
 fn read_within(text: &[u8], table: &mut [u64], entries: &mut [u64], room: usize) -> FileRead
@@ -23,16 +23,9 @@ fn read_within(text: &[u8], table: &mut [u64], entries: &mut [u64], room: usize)
 fn cells_read(read: FileRead) -> usize
     ensures { result ≡ count_of read.answer }
 {
-    let answer = read.answer;
-    match answer {
-        Answer::Refused {
-            number: _,
-            place: _,
-        } => 0,
-        Answer::Read {
-            cells: n,
-            entries: _,
-        } => n,
+    match read.answer {
+        Ok(counts) => counts.cells,
+        Err(_) => 0,
     }
 }
 

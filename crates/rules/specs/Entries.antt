@@ -1,6 +1,6 @@
 -- The rules for whole entries: behind their keywords, and at the keyword, with the room that it needs.
 -- Assumes nothing.
-use Rattle.std.specs.Prelude.{◌≡◌, Bool, true, List, [], ◌∷◌, ◌++◌, ◌⊎◌, ℕ, ◌+◌, ◌-◌, ◌≤◌, ◌<◌, eqb, length}
+use Rattle.std.specs.Prelude.{◌≡◌, Bool, true, List, [], ◌∷◌, ◌++◌, ◌⊎◌, ℕ, ◌+◌, ◌-◌, ◌≤◌, ◌<◌, eqb, length, Result, Ok, Err}
 use Rattle.std.proofs.Math.Path.{refl}
 use Rattle.std.proofs.Common.{◌∙◌, append_assoc, inl, inr}
 use Rattle.std.proofs.Math.Bool.{false}
@@ -8,21 +8,17 @@ use Rattle.std.proofs.Math.Option.{none, some}
 use native.Mathlib.Omega.{arith}
 use borrow.Author.Tests.{eq-eqb, ne_eqb, lt-leb, le-leb, eqb-true, eqb-false}
 use Rattle.classes.specs.Choice.{pick}
-use Rattle.tokenforms.specs.declared.Token.TheVariants.{Got, Stop}
+use Rattle.tokenforms.specs.declared.Refusal.{Refusal}
+use Rattle.tokenforms.specs.Tokens.{Got, Refused}
 use Rattle.tokenforms.specs.Tokens.{token_at}
 use Rattle.tokens.specs.Stream.{Placed, placed}
 use Rattle.words.specs.Words.{key_of}
 use Rattle.kinds.specs.Kinds.{has_second, rows_of, is_signed, facts_of, table}
+use Rattle.grammar.specs.Answers.{Name, ValueTo, EndTo}
 use Rattle.grammar.specs.Ll.{lit, non, choose}
 use Rattle.grammar.specs.Machine.{fine, bad}
 use Rattle.grammar.specs.declared.Value.{Value}
-use Rattle.grammar.specs.declared.Mark.TheVariants as mark
-use Rattle.grammar.specs.declared.ReadValue.TheVariants as rv
-use Rattle.grammar.specs.declared.ReadName.TheVariants as rn
-use Rattle.grammar.specs.declared.ReadEnd.TheVariants as re
 use Rattle.grammar.specs.declared.Entry.{Entry}
-use Rattle.grammar.specs.declared.Status.{Status}
-use Rattle.grammar.specs.declared.Status.TheVariants as status
 use Rattle.grammar.specs.Grammar.{N, Note, word, keys, ◌‼◌, ◌!◌, ◌⇒◌, entry, alts, fits, port, plain, close, end?, iopath_tail, interconnect_tail, port_tail, value_list, two_ends, one_value, two_values, device, delay, check}
 use Rattle.grammar.specs.Meaning.{Log, pushed, started, head_of, wrongly}
 use Rattle.grammar.specs.Reading.{reading, stepped, goes, halts}
@@ -36,56 +32,56 @@ ended k g pl e1 b1 t1 e2 b2 t2 = record { kind = k; group = g; place = pl; edge1
 
 -- behind the keyword of an entry of kind k in group g, which stands at pl
 module _ (s : List ℕ) (p : ℕ) (slash : Bool) (unit k g pl : ℕ) where
-  pub end_not : (ys : Stack) (i : Bool) (n q : ℕ) (h : Entry) (vs : List Value) → ReadsEnd s p i slash (re.Refused n q) →
-      Entered s p (non (end? i slash) ∷ ys) slash unit k g pl (status.Refused n q) h vs
+  pub end_not : (ys : Stack) (i : Bool) (n q : ℕ) (h : Entry) (vs : List Value) → ReadsEnd s p i slash (Refused n q) →
+      Entered s p (non (end? i slash) ∷ ys) slash unit k g pl (Refused n q) h vs
   end_not ys i n q h vs a = λ ss cr ir l. a (ys ++ ss) unit cr ir _
 
-  pub name_not : (ys : Stack) (m : Note) (n q : ℕ) (h : Entry) (vs : List Value) → ReadsPort s p slash (rn.Refused n q) →
-      Entered s p (lit (port slash ! m) ∷ ys) slash unit k g pl (status.Refused n q) h vs
+  pub name_not : (ys : Stack) (m : Note) (n q : ℕ) (h : Entry) (vs : List Value) → ReadsPort s p slash (Refused n q) →
+      Entered s p (lit (port slash ! m) ∷ ys) slash unit k g pl (Refused n q) h vs
   name_not ys m n q h vs a = λ ss cr ir l. a m (ys ++ ss) unit cr ir _
 
   -- IOPATH: an end that may have an edge, a port, values
-  pub iopath-port-not : (e b t x n q : ℕ) (h : Entry) (vs : List Value) → ReadsEnd s p false slash (re.End e b t x) → ReadsPort s x slash (rn.Refused n q) →
-      Entered s p (iopath_tail slash) slash unit k g pl (status.Refused n q) h vs
+  pub iopath-port-not : (e b t x n q : ℕ) (h : Entry) (vs : List Value) → ReadsEnd s p false slash (EndTo e b t x) → ReadsPort s x slash (Refused n q) →
+      Entered s p (iopath_tail slash) slash unit k g pl (Refused n q) h vs
   iopath-port-not e b t x n q h vs a w = λ ss cr ir l. a.0 _ unit cr ir _ ∙ w (plain true) _ unit cr ir _
 
-  pub iopath-done : (e b t x b2 t2 : ℕ) (st : Status) (vs : List Value) → ReadsEnd s p false slash (re.End e b t x) → ReadsPort s x slash (rn.Name b2 t2) →
+  pub iopath-done : (e b t x b2 t2 : ℕ) (st : Result ℕ Refusal) (vs : List Value) → ReadsEnd s p false slash (EndTo e b t x) → ReadsPort s x slash (Name b2 t2) →
       OpensValues s t2 unit st vs → Entered s p (iopath_tail slash) slash unit k g pl st (ended k g pl e b t 0 b2 t2) vs
-  iopath-done e b t x b2 t2 (status.Done y) vs a w u =
+  iopath-done e b t x b2 t2 (Ok y) vs a w u =
       (λ ss cr ir l. a.0 _ unit cr ir _ ∙ w.1 (plain true) _ unit cr ir _ ∙ u.0 ss slash cr ir _ ∙ rw (w.2, w.3), omega (arith, a.1, w.4, u.1), u.2)
-  iopath-done e b t x b2 t2 (status.Refused n q) vs a w u = λ ss cr ir l. a.0 _ unit cr ir _ ∙ w.1 (plain true) _ unit cr ir _ ∙ u ss slash cr ir _
+  iopath-done e b t x b2 t2 (Err why) vs a w u = λ ss cr ir l. a.0 _ unit cr ir _ ∙ w.1 (plain true) _ unit cr ir _ ∙ u ss slash cr ir _
 
   -- INTERCONNECT: two ports, values
-  pub wire_port-not : (b t n q : ℕ) (h : Entry) (vs : List Value) → ReadsPort s p slash (rn.Name b t) → ReadsPort s t slash (rn.Refused n q) →
-      Entered s p (interconnect_tail slash) slash unit k g pl (status.Refused n q) h vs
+  pub wire_port-not : (b t n q : ℕ) (h : Entry) (vs : List Value) → ReadsPort s p slash (Name b t) → ReadsPort s t slash (Refused n q) →
+      Entered s p (interconnect_tail slash) slash unit k g pl (Refused n q) h vs
   wire_port-not b t n q h vs a w = λ ss cr ir l. a.1 (plain false) _ unit cr ir _ ∙ w (plain true) _ unit cr ir _
 
-  pub wire_done : (b t b2 t2 : ℕ) (st : Status) (vs : List Value) → ReadsPort s p slash (rn.Name b t) → ReadsPort s t slash (rn.Name b2 t2) →
+  pub wire_done : (b t b2 t2 : ℕ) (st : Result ℕ Refusal) (vs : List Value) → ReadsPort s p slash (Name b t) → ReadsPort s t slash (Name b2 t2) →
       OpensValues s t2 unit st vs → Entered s p (interconnect_tail slash) slash unit k g pl st (ended k g pl 0 b t 0 b2 t2) vs
-  wire_done b t b2 t2 (status.Done y) vs a w u =
+  wire_done b t b2 t2 (Ok y) vs a w u =
       (λ ss cr ir l. a.1 (plain false) _ unit cr ir _ ∙ w.1 (plain true) _ unit cr ir _ ∙ u.0 ss slash cr ir _ ∙ rw (a.2, a.3, w.2, w.3), omega (arith, a.4, w.4, u.1), u.2)
-  wire_done b t b2 t2 (status.Refused n q) vs a w u = λ ss cr ir l. a.1 (plain false) _ unit cr ir _ ∙ w.1 (plain true) _ unit cr ir _ ∙ u ss slash cr ir _
+  wire_done b t b2 t2 (Err why) vs a w u = λ ss cr ir l. a.1 (plain false) _ unit cr ir _ ∙ w.1 (plain true) _ unit cr ir _ ∙ u ss slash cr ir _
 
   -- PORT: a port, values
-  pub port-done : (b t : ℕ) (st : Status) (vs : List Value) → ReadsPort s p slash (rn.Name b t) → OpensValues s t unit st vs →
+  pub port-done : (b t : ℕ) (st : Result ℕ Refusal) (vs : List Value) → ReadsPort s p slash (Name b t) → OpensValues s t unit st vs →
       Entered s p (port_tail slash) slash unit k g pl st (ended k g pl 0 b t 0 0 0) vs
-  port-done b t (status.Done y) vs w u =
+  port-done b t (Ok y) vs w u =
       (λ ss cr ir l. w.1 (plain false) _ unit cr ir _ ∙ u.0 ss slash cr ir _ ∙ rw (w.2, w.3), omega (arith, w.4, u.1), u.2)
-  port-done b t (status.Refused n q) vs w u = λ ss cr ir l. w.1 (plain false) _ unit cr ir _ ∙ u ss slash cr ir _
+  port-done b t (Err why) vs w u = λ ss cr ir l. w.1 (plain false) _ unit cr ir _ ∙ u ss slash cr ir _
 
   -- DEVICE: perhaps a port, values
-  pub device-stops : (n q : ℕ) (h : Entry) (vs : List Value) → p ≤ length s → token_at s p ≡ Stop n q →
-      Entered s p (non (device slash) ∷ []) slash unit k g pl (status.Refused n q) h vs
+  pub device-stops : (n q : ℕ) (h : Entry) (vs : List Value) → p ≤ length s → token_at s p ≡ Refused n q →
+      Entered s p (non (device slash) ∷ []) slash unit k g pl (Refused n q) h vs
   device-stops n q h vs f t = λ ss cr ir l. halts s _ ss _ p n q f t
 
   module _ (c b e : ℕ) (long : Bool) (h : p ≤ length s) (tok : token_at s p ≡ Got c b e long) where
-    pub device-bare : (st : Status) (vs : List Value) → c ≡ 2 → ReadsValues s e unit st vs →
+    pub device-bare : (st : Result ℕ Refusal) (vs : List Value) → c ≡ 2 → ReadsValues s e unit st vs →
         Entered s p (non (device slash) ∷ []) slash unit k g pl st (head_of k g pl) vs
     unfolding alts
-    device-bare (status.Done y) vs q u =
+    device-bare (Ok y) vs q u =
         let d = ahead s p c b e long h tok in
         (λ ss cr ir l. goes s _ p 2 b e long (fine _) h (rw q at tok) refl ∙ u.0 ss slash cr ir _, omega (arith, u.1), u.2)
-    device-bare (status.Refused n y) vs q u = λ ss cr ir l. goes s _ p 2 b e long (fine _) h (rw q at tok) refl ∙ u ss slash cr ir _
+    device-bare (Err why) vs q u = λ ss cr ir l. goes s _ p 2 b e long (fine _) h (rw q at tok) refl ∙ u ss slash cr ir _
 
     device-port : (ss : Stack) (cr ir : ℕ) (l : Log) → (c ≡ 2 → ⊥) →
         stepped (state (non (device slash) ∷ ss) false slash unit cr ir l) (placed s c b e long) ≡
@@ -93,16 +89,16 @@ module _ (s : List ℕ) (p : ℕ) (slash : Bool) (unit k g pl : ℕ) where
     unfolding alts
     device-port ss cr ir l n = heads (device slash) (port slash ! (plain false) ⇒ value_list) ss false slash unit cr ir l (placed s c b e long) (rw (ne_eqb c 2 n))
 
-    pub device-not : (m : ℕ) (x : Entry) (vs : List Value) → (c ≡ 2 → ⊥) → (m ≡ 0 → ⊥) → PortHere (placed s c b e long) slash m →
-        Entered s p (non (device slash) ∷ []) slash unit k g pl (status.Refused m b) x vs
-    device-not m x vs n z w = λ ss cr ir l. goes s _ p c b e long (bad m b) h tok (device-port ss cr ir _ n ∙ w (plain false) _ unit cr ir _ ∙ rw (ne_eqb m 0 z))
+    pub device-not : (m q : ℕ) (x : Entry) (vs : List Value) → (c ≡ 2 → ⊥) → PortHere (placed s c b e long) slash (Refused m q) →
+        Entered s p (non (device slash) ∷ []) slash unit k g pl (Refused m q) x vs
+    device-not m q x vs n w = λ ss cr ir l. goes s _ p c b e long (bad m q) h tok (device-port ss cr ir _ n ∙ w (plain false) _ unit cr ir _)
 
-    pub device-done : (st : Status) (vs : List Value) → (c ≡ 2 → ⊥) → PortHere (placed s c b e long) slash 0 → OpensValues s e unit st vs →
+    pub device-done : (st : Result ℕ Refusal) (vs : List Value) → (c ≡ 2 → ⊥) → PortHere (placed s c b e long) slash (Ok tt) → OpensValues s e unit st vs →
         Entered s p (non (device slash) ∷ []) slash unit k g pl st (ended k g pl 0 b e 0 0 0) vs
-    device-done (status.Done y) vs n w u =
+    device-done (Ok y) vs n w u =
         let d = ahead s p c b e long h tok in
         (λ ss cr ir l. goes s _ p c b e long (fine _) h tok (device-port ss cr ir _ n ∙ w (plain false) _ unit cr ir _) ∙ u.0 ss slash cr ir _, omega (arith, u.1), u.2)
-    device-done (status.Refused m y) vs n w u =
+    device-done (Err why) vs n w u =
         λ ss cr ir l. goes s _ p c b e long (fine _) h tok (device-port ss cr ir _ n ∙ w (plain false) _ unit cr ir _) ∙ u ss slash cr ir _
 
 -- the values of a check, one or two, and its closing bracket
@@ -110,59 +106,59 @@ abbrev pub check_values : Bool → Bool → Stack
 check_values two sg = pick two (two_values sg) (one_value sg)
 
 -- the second of two values was read, behind the first one, v
-abbrev pub SecondValue : List ℕ → ℕ → Bool → ℕ → Value → Status → List Value → Type 0
-SecondValue s p sg unit v (status.Done e) vs =
+abbrev pub SecondValue : List ℕ → ℕ → Bool → ℕ → Value → Result ℕ Refusal → List Value → Type 0
+SecondValue s p sg unit v (Ok e) vs =
     ((ss : Stack) (slash : Bool) (cr ir : ℕ) (l : Log) →
     reading s (state (one_value sg ++ ss) false slash unit cr ir (pushed v l)) p ≡ reading s (state ss false slash unit cr ir (shut (listed vs l))) e)
     × (p < e) × (e ≤ length s)
-SecondValue s p sg unit v (status.Refused n q) vs =
-    (ss : Stack) (slash : Bool) (cr ir : ℕ) (l : Log) → reading s (state (one_value sg ++ ss) false slash unit cr ir (pushed v l)) p ≡ bad n q
+SecondValue s p sg unit v (Err why) vs =
+    (ss : Stack) (slash : Bool) (cr ir : ℕ) (l : Log) → reading s (state (one_value sg ++ ss) false slash unit cr ir (pushed v l)) p ≡ bad why.number why.place
 
 -- the values of a check, from behind its ends
 module _ (s : List ℕ) (p unit : ℕ) (sg : Bool) where
-  pub one-not : (two : Bool) (n q : ℕ) (vs : List Value) → OpensValue s p sg unit (rv.Refused n q) → ValuesFrom s p (check_values two sg) false unit (status.Refused n q) vs
+  pub one-not : (two : Bool) (n q : ℕ) (vs : List Value) → OpensValue s p sg unit (Refused n q) → ValuesFrom s p (check_values two sg) false unit (Refused n q) vs
   one-not true n q vs u = λ ss slash cr ir l. u.0 _ slash cr ir l
   one-not false n q vs u = λ ss slash cr ir l. u.0 _ slash cr ir l
 
-  module _ (v : Value) (x : ℕ) (u : OpensValue s p sg unit (rv.Value v x)) where
-    pub one-shut : (q : ℕ) → Marked s x 3 (mark.At q) → ValuesFrom s p (check_values false sg) false unit (status.Done q) (v ∷ [])
+  module _ (v : Value) (x : ℕ) (u : OpensValue s p sg unit (ValueTo v x)) where
+    pub one-shut : (q : ℕ) → Marked s x 3 (Ok q) → ValuesFrom s p (check_values false sg) false unit (Ok q) (v ∷ [])
     one-shut q m = (λ ss slash cr ir l. u.0 _ slash cr ir l ∙ m.1 close _ slash unit cr ir _, omega (arith, u.1.0, m.2), m.3)
 
-    pub one_open : (n q : ℕ) (vs : List Value) → Marked s x 3 (mark.Refused n q) → ValuesFrom s p (check_values false sg) false unit (status.Refused n q) vs
+    pub one_open : (n q : ℕ) (vs : List Value) → Marked s x 3 (Refused n q) → ValuesFrom s p (check_values false sg) false unit (Refused n q) vs
     one_open n q vs m = λ ss slash cr ir l. u.0 _ slash cr ir l ∙ m close _ slash unit cr ir _
 
-    pub two-done : (st : Status) (vs : List Value) → SecondValue s x sg unit v st vs → ValuesFrom s p (check_values true sg) false unit st vs
-    two-done (status.Done q) vs w = (λ ss slash cr ir l. u.0 _ slash cr ir l ∙ w.0 ss slash cr ir l, omega (arith, u.1.0, w.1), w.2)
-    two-done (status.Refused n q) vs w = λ ss slash cr ir l. u.0 _ slash cr ir l ∙ w ss slash cr ir l
+    pub two-done : (st : Result ℕ Refusal) (vs : List Value) → SecondValue s x sg unit v st vs → ValuesFrom s p (check_values true sg) false unit st vs
+    two-done (Ok q) vs w = (λ ss slash cr ir l. u.0 _ slash cr ir l ∙ w.0 ss slash cr ir l, omega (arith, u.1.0, w.1), w.2)
+    two-done (Err why) vs w = λ ss slash cr ir l. u.0 _ slash cr ir l ∙ w ss slash cr ir l
 
 module _ (s : List ℕ) (p unit : ℕ) (sg : Bool) (v : Value) where
-  pub second_not : (n q : ℕ) (vs : List Value) → OpensValue s p sg unit (rv.Refused n q) → SecondValue s p sg unit v (status.Refused n q) vs
+  pub second_not : (n q : ℕ) (vs : List Value) → OpensValue s p sg unit (Refused n q) → SecondValue s p sg unit v (Refused n q) vs
   second_not n q vs w = λ ss slash cr ir l. w.0 _ slash cr ir _
 
-  module _ (v2 : Value) (x2 : ℕ) (w : OpensValue s p sg unit (rv.Value v2 x2)) where
-    pub second_shut : (q : ℕ) → Marked s x2 3 (mark.At q) → SecondValue s p sg unit v (status.Done q) (v ∷ v2 ∷ [])
+  module _ (v2 : Value) (x2 : ℕ) (w : OpensValue s p sg unit (ValueTo v2 x2)) where
+    pub second_shut : (q : ℕ) → Marked s x2 3 (Ok q) → SecondValue s p sg unit v (Ok q) (v ∷ v2 ∷ [])
     second_shut q m =
         (λ ss slash cr ir l. w.0 _ slash cr ir _ ∙ m.1 close _ slash unit cr ir _ ∙ rw append_assoc, omega (arith, w.1.0, m.2), m.3)
 
-    pub second_open : (n q : ℕ) (vs : List Value) → Marked s x2 3 (mark.Refused n q) → SecondValue s p sg unit v (status.Refused n q) vs
+    pub second_open : (n q : ℕ) (vs : List Value) → Marked s x2 3 (Refused n q) → SecondValue s p sg unit v (Refused n q) vs
     second_open n q vs m = λ ss slash cr ir l. w.0 _ slash cr ir _ ∙ m close _ slash unit cr ir _
 
 -- a check behind its keyword: one end or two, then its values
-module _ (s : List ℕ) (p : ℕ) (slash : Bool) (unit k g pl : ℕ) (ys : Stack) (e b t x : ℕ) (a : ReadsEnd s p false slash (re.End e b t x)) where
-  pub single_done : (st : Status) (vs : List Value) → ValuesFrom s x ys false unit st vs →
+module _ (s : List ℕ) (p : ℕ) (slash : Bool) (unit k g pl : ℕ) (ys : Stack) (e b t x : ℕ) (a : ReadsEnd s p false slash (EndTo e b t x)) where
+  pub single_done : (st : Result ℕ Refusal) (vs : List Value) → ValuesFrom s x ys false unit st vs →
       Entered s p (non (end? false slash) ∷ ys) slash unit k g pl st (ended k g pl e b t 0 0 0) vs
-  single_done (status.Done y) vs u = (λ ss cr ir l. a.0 _ unit cr ir _ ∙ u.0 ss slash cr ir _, omega (arith, a.1, u.1), u.2)
-  single_done (status.Refused n q) vs u = λ ss cr ir l. a.0 _ unit cr ir _ ∙ u ss slash cr ir _
+  single_done (Ok y) vs u = (λ ss cr ir l. a.0 _ unit cr ir _ ∙ u.0 ss slash cr ir _, omega (arith, a.1, u.1), u.2)
+  single_done (Err why) vs u = λ ss cr ir l. a.0 _ unit cr ir _ ∙ u ss slash cr ir _
 
-  pub pair-not : (n q : ℕ) (h : Entry) (vs : List Value) → ReadsEnd s x true slash (re.Refused n q) →
-      Entered s p (two_ends slash ys) slash unit k g pl (status.Refused n q) h vs
+  pub pair-not : (n q : ℕ) (h : Entry) (vs : List Value) → ReadsEnd s x true slash (Refused n q) →
+      Entered s p (two_ends slash ys) slash unit k g pl (Refused n q) h vs
   pair-not n q h vs w = λ ss cr ir l. a.0 _ unit cr ir _ ∙ w _ unit cr ir _
 
-  pub pair-done : (e2 b2 t2 x2 : ℕ) (st : Status) (vs : List Value) → ReadsEnd s x true slash (re.End e2 b2 t2 x2) → ValuesFrom s x2 ys false unit st vs →
+  pub pair-done : (e2 b2 t2 x2 : ℕ) (st : Result ℕ Refusal) (vs : List Value) → ReadsEnd s x true slash (EndTo e2 b2 t2 x2) → ValuesFrom s x2 ys false unit st vs →
       Entered s p (two_ends slash ys) slash unit k g pl st (ended k g pl e b t e2 b2 t2) vs
-  pair-done e2 b2 t2 x2 (status.Done y) vs w u =
+  pair-done e2 b2 t2 x2 (Ok y) vs w u =
       (λ ss cr ir l. a.0 _ unit cr ir _ ∙ w.0 _ unit cr ir _ ∙ u.0 ss slash cr ir _, omega (arith, a.1, w.1, u.1), u.2)
-  pair-done e2 b2 t2 x2 (status.Refused n q) vs w u = λ ss cr ir l. a.0 _ unit cr ir _ ∙ w.0 _ unit cr ir _ ∙ u ss slash cr ir _
+  pair-done e2 b2 t2 x2 (Err why) vs w u = λ ss cr ir l. a.0 _ unit cr ir _ ∙ w.0 _ unit cr ir _ ∙ u ss slash cr ir _
 
 -- what follows the keyword of each kind of entry
 abbrev pub delay_tail : ℕ → Bool → Stack
@@ -176,20 +172,20 @@ check_tail k d =
 abbrev pub Chosen : Placed → N → ℕ → ℕ → ℕ → Stack → Type 0
 Chosen t y lo hi g rest = choose fits (alts y) t ≡ some (word keys lo hi ‼ (entry g) ⇒ rest)
 
-pub listable_stops : (s : List ℕ) (p n q : ℕ) (y : N) (slash : Bool) (unit room : ℕ) (h : Entry) (vs : List Value) → p ≤ length s → token_at s p ≡ Stop n q →
-    Listable s p y slash unit room (status.Refused n q) h vs
+pub listable_stops : (s : List ℕ) (p n q : ℕ) (y : N) (slash : Bool) (unit room : ℕ) (h : Entry) (vs : List Value) → p ≤ length s → token_at s p ≡ Refused n q →
+    Listable s p y slash unit room (Refused n q) h vs
 listable_stops s p n q y slash unit room h vs f t = λ ss cr l. halts s _ ss _ p n q f t
 
 module _ (s : List ℕ) (p k b e : ℕ) (long : Bool) (h : p ≤ length s) (tok : token_at s p ≡ Got k b e long) (y : N) (slash : Bool) (unit room : ℕ) where
   pub listable_not : (w : ℕ) (x : Entry) (vs : List Value) → w ≡ wrongly true k (placed s k b e long).bytes → choose fits (alts y) (placed s k b e long) ≡ none →
-      Listable s p y slash unit room (status.Refused w b) x vs
+      Listable s p y slash unit room (Refused w b) x vs
   listable_not w x vs v c = λ ss cr l. goes s _ p k b e long (bad w b) h tok (rw (c, v))
 
   module _ (lo hi g : ℕ) (rest : Stack) (c : Chosen (placed s k b e long) y lo hi g rest) where
-    pub listable_long : (x : Entry) (vs : List Value) → long ≡ true → Listable s p y slash unit room (status.Refused 8 b) x vs
+    pub listable_long : (x : Entry) (vs : List Value) → long ≡ true → Listable s p y slash unit room (Refused 8 b) x vs
     listable_long x vs f = λ ss cr l. goes s _ p k b e long (bad 8 b) h tok (rw (c, f))
 
-    pub listable_full : (x : Entry) (vs : List Value) → long ≡ false → room ≡ 0 → Listable s p y slash unit room (status.Refused 9 b) x vs
+    pub listable_full : (x : Entry) (vs : List Value) → long ≡ false → room ≡ 0 → Listable s p y slash unit room (Refused 9 b) x vs
     listable_full x vs f r = λ ss cr l. goes s _ p k b e long (bad 9 b) h tok (rw (c, f, r))
 
     onto : (ss : Stack) (cr : ℕ) (l : Log) → k ≡ 7 → long ≡ false → (room ≡ 0 → ⊥) →
@@ -197,12 +193,12 @@ module _ (s : List ℕ) (p k b e : ℕ) (long : Bool) (h : p ≤ length s) (tok 
         reading s (state (rest ++ ss) false slash unit cr (room - 1) (started (key_of (placed s k b e long).bytes) g b l)) e
     onto ss cr l q f r = let z : eqb k 2 ≡ false = rw q refl in goes s _ p k b e long (fine _) h tok (rw (c, f, ne_eqb room 0 r, z))
 
-    pub listable_done : (st : Status) (x : Entry) (vs : List Value) → k ≡ 7 → long ≡ false → (room ≡ 0 → ⊥) →
+    pub listable_done : (st : Result ℕ Refusal) (x : Entry) (vs : List Value) → k ≡ 7 → long ≡ false → (room ≡ 0 → ⊥) →
         Entered s e rest slash unit (key_of (placed s k b e long).bytes) g b st x vs → Listable s p y slash unit room st x vs
-    listable_done (status.Done z) x vs q f r u =
+    listable_done (Ok z) x vs q f r u =
         let d = ahead s p k b e long h tok in
         (λ ss cr l. onto ss cr l q f r ∙ u.0 ss cr (room - 1) l, omega (arith, u.1), u.2, omega arith)
-    listable_done (status.Refused n z) x vs q f r u = λ ss cr l. onto ss cr l q f r ∙ u ss cr (room - 1) l
+    listable_done (Err why) x vs q f r u = λ ss cr l. onto ss cr l q f r ∙ u ss cr (room - 1) l
 
 -- a number that is not below another is that one, or above it
 upward : {X : Type 0} (a b : ℕ) → b ≤ a → (a ≡ b → X) → (b < a → X) → X

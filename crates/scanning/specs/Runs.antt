@@ -30,6 +30,10 @@ pub record SkippedTo (s : List ℕ) (p : ℕ) (r : Skipped) : Type 0 where
 abbrev pub commented : List ℕ → ℕ → Bool
 commented s i = and (is "/" (get_or s i 0)) (commences (get_or s (i + 1) 0))
 
+-- the state of a word inside brackets and outside
+abbrev pub state_of : Bool → ℕ
+state_of inside = pick inside 1 0
+
 -- ': belongs to it only after an unescaped [, up to the next unescaped ]': 1 behind [, 0 behind ]
 abbrev pub bracketed : ℕ → ℕ → ℕ
 bracketed q c = pick (is "[" c) 1 (pick (is "]" c) 0 q)

@@ -5,7 +5,7 @@ ghost use Rattle.std.specs.Prelude.{◌≡◌, ◌+◌, ◌≤◌, ◌<◌, eqb,
 ghost use Rattle.classes.specs.Classes.{class_of};
 ghost use Rattle.scanning.specs.Scan.{scan_len};
 ghost use Rattle.scanning.specs.Machines.{commences, word_halts, word_end, blank_stop, mode_next, since_next, text_stop, close_stop, text_next, text_goes, close_halts};
-ghost use Rattle.scanning.specs.Runs.{WhiteTo, SkippedTo, commented, bracketed, width_of};
+ghost use Rattle.scanning.specs.Runs.{WhiteTo, SkippedTo, commented, state_of, bracketed, width_of};
 
 use classes::{class_of, is_legal, is_plain, is_white, is_within, mark_of};
 
@@ -38,28 +38,27 @@ fn starts_comment(behind: u8) -> bool
 }
 
 // Whether a word ends before this byte, which is not plain. Only a slash and a backslash look at the byte behind them, which stands at next.
-fn word_stop(text: &[u8], next: usize, state: u8, byte: u8) -> bool
-    requires { (state < 2) × (class_of byte ≡ 7 → ⊥) }
-    ensures { result ≡ word_halts state byte (get_or text.now next 0) }
+fn word_stop(text: &[u8], next: usize, inside: bool, byte: u8) -> bool
+    requires { class_of byte ≡ 7 → ⊥ }
+    ensures { result ≡ word_halts (state_of inside) byte (get_or text.now next 0) }
 {
     match byte {
         b'/' => starts_comment(peek(text, next)),
         b'\\' => !is_within(0x21, 0x7E, peek(text, next)),
         b'[' | b']' => false,
-        b':' => state == 0,
+        b':' => !inside,
         _ => true,
     }
 }
 
 // Whether a word is inside brackets behind this byte.
-fn word_next(state: u8, byte: u8) -> u8
-    requires { state < 2 }
-    ensures { (result ≡ bracketed state byte) × (result < 2) }
+fn word_next(inside: bool, byte: u8) -> bool
+    ensures { state_of result ≡ bracketed (state_of inside) byte }
 {
     match byte {
-        b'[' => 1,
-        b']' => 0,
-        _ => state,
+        b'[' => true,
+        b']' => false,
+        _ => inside,
     }
 }
 
@@ -67,10 +66,7 @@ fn word_next(state: u8, byte: u8) -> u8
 fn word_step(byte: u8) -> usize
     ensures { result ≡ width_of byte }
 {
-    if byte == b'\\' {
-        return 2;
-    }
-    1
+    if byte == b'\\' { 2 } else { 1 }
 }
 
 // Where the word from a place on ends. Most of its bytes are plain, and go on with it outside brackets and inside.
@@ -79,16 +75,17 @@ pub fn word_end(text: &[u8], from: usize) -> usize
     ensures { (result ≡ word_end text.now from) × (result ≤ length text.now) × (from ≤ result) }
 {
     let mut i = from;
-    let mut state: u8 = 0;
+    let mut inside = false;
+    // (no `for`: a backslash takes two bytes)
     while i < text.len() {
         let byte = text[i];
         if is_plain(byte) {
             i += 1;
         } else {
-            if word_stop(text, i + 1, state, byte) {
+            if word_stop(text, i + 1, inside, byte) {
                 return i;
             }
-            state = word_next(state, byte);
+            inside = word_next(inside, byte);
             i += word_step(byte);
         }
     }
@@ -96,78 +93,45 @@ pub fn word_end(text: &[u8], from: usize) -> usize
 }
 
 // Whether no word goes on from a place: as a rule a mark stands there, which is seen at once.
+#[tactic(auto, using(crate::specs::RunLaws::mark_ends))]
 pub fn ends_word(text: &[u8], place: usize) -> bool
     requires { place ≤ length text.now }
     ensures { result ≡ eqb (word_end text.now place) place }
 {
-    if mark_of(peek(text, place)) != 0 {
-        return true;
-    }
-    word_end(text, place) == place
+    mark_of(peek(text, place)) != 0 || word_end(text, place) == place
 }
 
+#[tactic(auto, unfolding(crate::specs::Machines::blank_stop))]
 fn blank_stop(mode: u8, class: u8, behind: u8) -> bool
     ensures { result ≡ blank_stop mode class behind }
 {
-    if class == 0 {
-        return true;
+    match (mode, class) {
+        (_, 0) => true,
+        (0, 1) => false,
+        (0, 8) => !starts_comment(behind),
+        _ => mode == 0,
     }
-    if mode == 0 {
-        if class == 1 {
-            return false;
-        }
-        if class == 8 {
-            if behind == b'/' {
-                return false;
-            }
-            return !(behind == b'*');
-        }
-        return true;
-    }
-    false
 }
 
+#[tactic(auto, unfolding(crate::specs::Machines::mode_next))]
 fn mode_next(mode: u8, class: u8, byte: u8, behind: u8) -> u8
     ensures { result ≡ mode_next mode class byte behind }
 {
-    if mode == 0 {
-        if class == 8 {
-            if behind == b'/' {
-                return 1;
-            }
-            return 2;
-        }
-        return 0;
+    match mode {
+        0 if class == 8 && behind == b'/' => 1,
+        0 if class == 8 => 2,
+        1 if byte != b'\n' => 1,
+        3 if byte == b'*' && behind == b'/' => 4,
+        2 | 3 => 3,
+        _ => 0,
     }
-    if mode == 1 {
-        if byte == b'\n' {
-            return 0;
-        }
-        return 1;
-    }
-    if mode == 2 {
-        return 3;
-    }
-    if mode == 3 {
-        if byte == b'*' {
-            if behind == b'/' {
-                return 4;
-            }
-            return 3;
-        }
-        return 3;
-    }
-    0
 }
 
 fn since_next(mode: u8, since: usize) -> usize
     requires { since < 18446744073709551615 }
     ensures { (result ≡ since_next mode since) × (result ≤ since + 1) }
 {
-    if mode == 0 {
-        return 0;
-    }
-    since + 1
+    if mode == 0 { 0 } else { since + 1 }
 }
 
 // Past the white space from a place on: what follows is the same from there.
@@ -175,14 +139,12 @@ pub fn white_end(text: &[u8], from: usize) -> usize
     requires { from ≤ length text.now }
     ensures { WhiteTo text.now from result }
 {
-    let mut i = from;
-    while i < text.len() {
+    for i in from..text.len() {
         if !is_white(text[i]) {
             return i;
         }
-        i += 1;
     }
-    i
+    text.len()
 }
 
 // Whether a comment begins here.
@@ -190,10 +152,7 @@ fn comment_at(text: &[u8], i: usize) -> bool
     requires { i ≤ length text.now }
     ensures { result ≡ commented text.now i }
 {
-    if peek(text, i) == b'/' {
-        return starts_comment(peek(text, i + 1));
-    }
-    false
+    peek(text, i) == b'/' && starts_comment(peek(text, i + 1))
 }
 
 // Past white space and comments from a place on, byte by byte.
@@ -201,32 +160,24 @@ fn skip_comments(text: &[u8], from: usize) -> Skipped
     requires { from ≤ length text.now }
     ensures { SkippedTo text.now from result }
 {
-    let mut i = from;
     let mut mode: u8 = 0;
     let mut since: usize = 0;
-    while i < text.len() {
+    for i in from..text.len() {
         let byte = text[i];
         let class = class_of(byte);
         let behind = peek(text, i + 1);
         if blank_stop(mode, class, behind) {
             return Skipped {
                 place: i,
-                blank: Blank {
-                    mode: mode,
-                    since: since,
-                },
+                blank: Blank { mode, since },
             };
         }
         mode = mode_next(mode, class, byte, behind);
         since = since_next(mode, since);
-        i += 1;
     }
     Skipped {
-        place: i,
-        blank: Blank {
-            mode: mode,
-            since: since,
-        },
+        place: text.len(),
+        blank: Blank { mode, since },
     }
 }
 
@@ -245,30 +196,25 @@ pub fn skip_blank(text: &[u8], from: usize) -> Skipped
     }
 }
 
+#[tactic(auto, using(classes::specs::ClassLaws::quote_byte), unfolding(crate::specs::Machines::close_stop))]
 fn close_stop(state: u8, byte: u8) -> bool
     ensures { result ≡ close_stop state (class_of byte) }
 {
     state == 0 && byte == b'"'
 }
 
+#[tactic(auto, using(classes::specs::ClassLaws::legal_rule), unfolding(crate::specs::Machines::text_stop))]
 pub fn text_stop(state: u8, byte: u8) -> bool
     ensures { result ≡ text_stop state (class_of byte) }
 {
-    if is_legal(byte) {
-        return close_stop(state, byte);
-    }
-    true
+    !is_legal(byte) || close_stop(state, byte)
 }
 
+#[tactic(auto, using(classes::specs::ClassLaws::back_byte), unfolding(crate::specs::Machines::text_next))]
 pub fn text_next(state: u8, byte: u8) -> u8
     ensures { result ≡ text_next state (class_of byte) }
 {
-    if state == 0 {
-        if byte == b'\\' {
-            return 1;
-        }
-    }
-    0
+    if state == 0 && byte == b'\\' { 1 } else { 0 }
 }
 
 // The quote that closes a string, from a place of its content on, with no regard to illegal bytes.
@@ -276,15 +222,13 @@ pub fn close_end(text: &[u8], from: usize, begin: u8) -> usize
     requires { from ≤ length text.now }
     ensures { (result ≡ from + scan_len close_halts text_goes begin (drop from text.now)) × (from ≤ result) }
 {
-    let mut i = from;
     let mut state = begin;
-    while i < text.len() {
+    for i in from..text.len() {
         let byte = text[i];
         if close_stop(state, byte) {
             return i;
         }
         state = text_next(state, byte);
-        i += 1;
     }
-    i
+    text.len()
 }

@@ -1,11 +1,11 @@
 -- The parts of a swap by seats: the marks, the flags, the seats' values, and the three parts of the new file.
 -- Assumes nothing.
 use Prim.Native.Nat.{ℕ, zero, suc, ◌+◌, ◌-◌, ◌*◌, ◌<◌, ◌≤◌}
-use Rattle.std.specs.Prelude.{◌≡◌, Bool, true, false, List, ◌++◌, eqb, length, get_or, set, take, drop, replicate}
+use Rattle.std.specs.Prelude.{◌≡◌, Bool, true, false, List, eqb, length, get_or, take, drop, replicate}
 use Rattle.std.proofs.Math.Path.{refl}
-use Rattle.std.proofs.Common.{sym, ap, ◌∙◌, arith, add-one, length-drop, length-take-le, drop-cons, take_at, drop_at, eqb-true}
-use Rattle.std.proofs.lemmas.List.{length-replicate, replicate-append-replicate, set_at}
-use Rattle.std.proofs.Math.Seq.{paste, append_snoc}
+use Rattle.std.proofs.Common.{sym, ◌∙◌, arith, add-one, length-drop, length-take-le, take_at, drop_at, eqb-true}
+use Rattle.std.proofs.lemmas.List.{length-replicate, replicate-append-replicate}
+use Rattle.std.proofs.Math.Seq.{paste}
 use Rattle.std.proofs.lemmas.Bool.{eqb-false}
 use Rattle.sheetparts.specs.Form.{values_at}
 use Rattle.sheetlaws.specs.Sheet.{ar_next, place}
@@ -28,12 +28,6 @@ use Rattle.nearby.specs.Seats.{SeatsRan, CellsSeatsRan}
 use Rattle.seating.specs.Seating.{StatesLoaded, backs, FrontRan, SeatsThrough, MarksCover, FlagsSeated}
 
 -- 1. One turn of each loop
-
--- one flag more is unset
-pub clear_more : (t old : List ℕ) (k : ℕ) → k < length t → old ≡ replicate k 0 ++ drop k t → set old k 0 ≡ replicate (k + 1) 0 ++ drop (k + 1) t
-clear_more t old k h e =
-    rw (e, drop-cons t k 0 h, set_at (replicate k 0) (get_or t k 0) (drop (suc k) t) 0 k (length-replicate k 0))
-    (sym (append_snoc (replicate k 0) 0 (drop (suc k) t)) ∙ ap (λ x. x ++ drop (suc k) t) (replicate-append-replicate k 1 0) ∙ rw (add-one k))
 
 -- unset flags are unset in each part
 zero-part : (size rest i z : ℕ) → part_no size (replicate (size * i + (size + rest)) z) i ≡ replicate size z

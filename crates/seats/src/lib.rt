@@ -3,78 +3,70 @@
 #![tactic(auto)]
 
 ghost use Rattle.std.specs.Prelude.{◌≡◌, false, ◌+◌, ◌*◌, ◌≤◌, ◌<◌, length, get_or};
-ghost use Rattle.classes.specs.Choice.{pick};
 ghost use Rattle.meant.specs.Find.{InstanceSearch, ArcSearch};
 ghost use Rattle.meant.specs.Cells.{entries_before};
 ghost use Rattle.findseat.specs.Findseat.{InOrder};
 ghost use Rattle.nearby.specs.Seats.{Common, SeatsRan, CellsSeatsRan};
 
 use arcrun::Least;
-use meant::entryarcs::Plan;
-use meant::meaning;
+use meant::{Asked, Searched, meaning};
+
+// The seated arcs: their places, the name that their ends have in common, and the flags of their slots.
+#[derive(Clone, Copy)]
+pub struct Seated<'a> {
+    pub arcs: &'a [usize],
+    pub common: &'a [u8],
+    pub flags: &'a [u8],
+}
 
 // Takes the values of all seats through a cell, whose keyword is an event's number: the least fault of them all.
 pub fn run_seats<'a>(
-    start: &[u8],
-    file: &'a [u8],
-    incoming: &'a [u8],
+    searched: Searched<'a>,
+    text: &'a [u8],
     side: bool,
-    plan: Plan,
-    places: &[u32; 4096],
-    marks: &[u32; 4096],
     cells: &[u64],
     row: usize,
     entries: &[u64],
     first: usize,
-    common: &[u8],
-    arcs: &[usize; 4096],
-    count: usize,
-    flags: &[u8],
+    seated: Seated<'a>,
     states: &mut [u8],
     event: usize,
 ) -> Least
-    requires { (InstanceSearch start.now plan.instances 12 places.now) × (ArcSearch start.now plan.arcs plan.first marks.now)
-        × (InOrder start.now plan.arcs plan.first arcs.now count)
-        × (Common start.now arcs.now count common.now) × (count ≤ 4096) × (18 * count ≤ length flags.now)
-        × (144 * count ≤ length states.old)
+    requires { (InstanceSearch searched.start.now searched.plan.instances 12 searched.places.now)
+        × (ArcSearch searched.start.now searched.plan.arcs searched.plan.first searched.marks.now)
+        × (InOrder searched.start.now searched.plan.arcs searched.plan.first seated.arcs.now (length seated.arcs.now))
+        × (Common searched.start.now seated.arcs.now (length seated.arcs.now) seated.common.now)
+        × (18 * length seated.arcs.now ≤ length seated.flags.now) × (144 * length seated.arcs.now ≤ length states.old)
         × (row + 7 ≤ length cells.now) × (28 * (first + get_or cells.now (row + 6) 0) ≤ length entries.now)
         × (event + 1 + get_or cells.now (row + 6) 0 < 18446744073709551616) }
-    ensures { (length states.new ≡ length states.old)
-        × (SeatsRan start.now (pick side incoming.now file.now) plan.slash plan.instances plan.arcs
-        plan.first side cells.now row entries.now first event arcs.now flags.now states.old
-        count states.new result) }
+    ensures { let s = searched.entry in let t = seated.entry in (length states.new ≡ length states.old)
+        × (SeatsRan s.start.now text.now s.plan.slash s.plan.instances s.plan.arcs
+        s.plan.first side cells.now row entries.now first event t.arcs.now t.flags.now states.old
+        (length t.arcs.now) states.new result) }
 {
+    let start = searched.start;
+    let plan = searched.plan;
     let cell = views::cell_at(cells, row);
-    if nearby::is_far(file, incoming, side, plan.slash, cell, common) {
+    if nearby::is_far(text, plan.slash, cell, seated.common) {
         return Least::Nothing;
     }
-    if !nearby::is_near(start, file, incoming, side, plan.slash, cell, arcs, count) {
+    if !nearby::is_near(start, text, plan.slash, cell, seated.arcs) {
         return Least::Nothing;
     }
-    let celltype = names::name_of(file, incoming, side, cell.typefrom, cell.typeto);
-    let whom = meaning::whom_of(
-        start,
-        meant::text_of(file, incoming, side),
-        plan,
-        places,
-        cell,
-    );
+    let asked = Asked {
+        searched,
+        text,
+        whom: meaning::whom_of(start, text, plan, searched.places, cell),
+        celltype: names::part_of(text, cell.typefrom, cell.typeto),
+    };
     entryseats::run_entries(
-        start,
-        file,
-        incoming,
+        asked,
         side,
-        plan,
-        places,
-        marks,
         entries,
         first,
         cell.entries,
-        whom,
-        celltype,
-        arcs,
-        count,
-        flags,
+        seated.arcs,
+        seated.flags,
         states,
         event + 1,
     )
@@ -82,58 +74,47 @@ pub fn run_seats<'a>(
 
 // Takes them through the file's cells number `from` up to `to`, from 0 on; `before` entries stand before them, and their events start at `begin`.
 pub fn run_cells<'a>(
-    start: &[u8],
+    searched: Searched<'a>,
     file: &'a [u8],
-    incoming: &'a [u8],
-    plan: Plan,
-    places: &[u32; 4096],
-    marks: &[u32; 4096],
     cells: &[u64],
     from: usize,
     to: usize,
     entries: &[u64],
     before: usize,
-    common: &[u8],
-    arcs: &[usize; 4096],
-    count: usize,
-    flags: &[u8],
+    seated: Seated<'a>,
     states: &mut [u8],
     begin: usize,
 ) -> Least
-    requires { (InstanceSearch start.now plan.instances 12 places.now) × (ArcSearch start.now plan.arcs plan.first marks.now)
-        × (InOrder start.now plan.arcs plan.first arcs.now count)
-        × (Common start.now arcs.now count common.now) × (count ≤ 4096) × (18 * count ≤ length flags.now)
-        × (144 * count ≤ length states.old)
+    requires { (InstanceSearch searched.start.now searched.plan.instances 12 searched.places.now)
+        × (ArcSearch searched.start.now searched.plan.arcs searched.plan.first searched.marks.now)
+        × (InOrder searched.start.now searched.plan.arcs searched.plan.first seated.arcs.now (length seated.arcs.now))
+        × (Common searched.start.now seated.arcs.now (length seated.arcs.now) seated.common.now)
+        × (18 * length seated.arcs.now ≤ length seated.flags.now) × (144 * length seated.arcs.now ≤ length states.old)
         × (7 * to ≤ length cells.now) × (before ≡ entries_before cells.now from) × (28 * entries_before cells.now to ≤ length entries.now)
         × (begin + (to + entries_before cells.now to) < 18446744073709551616) }
-    ensures { (length states.new ≡ length states.old)
-        × (CellsSeatsRan start.now file.now plan.slash plan.instances plan.arcs plan.first cells.now from to
-        entries.now begin arcs.now flags.now states.old count states.new result) }
+    ensures { let s = searched.entry in let t = seated.entry in (length states.new ≡ length states.old)
+        × (CellsSeatsRan s.start.now file.now s.plan.slash s.plan.instances s.plan.arcs s.plan.first cells.now from to
+        entries.now begin t.arcs.now t.flags.now states.old (length t.arcs.now) states.new result) }
 {
-    let mut k = from;
     let mut first = before;
     let mut event = begin;
-    while k < to {
+    for k in from..to {
         let row = 7 * k;
         let least = run_seats(
-            start, file, incoming, false, plan, places, marks, cells, row, entries, first, common,
-            arcs, count, flags, states, event,
+            searched, file, false, cells, row, entries, first, seated, states, event,
         );
-        match least {
-            Least::Fault {
-                event: e,
-                number,
-                place,
-                incoming: i,
-            } => {
-                return least;
-            }
-            Least::Nothing => {}
+        if let Least::Fault {
+            event: e,
+            number,
+            place,
+            incoming,
+        } = least
+        {
+            return least;
         }
         let some = cells[row + 6] as usize;
         first += some;
         event += 1 + some;
-        k += 1;
     }
     Least::Nothing
 }

@@ -1,7 +1,7 @@
 -- Two sheets with the same records.
 -- Assumes nothing.
 use Prim.Native.Nat.{ℕ, zero, suc, ◌+◌, ◌-◌, ◌≤◌, ◌<◌}
-use Rattle.std.specs.Prelude.{◌≡◌, Bool, List, drop, ◌↔◌}
+use Rattle.std.specs.Prelude.{◌≡◌, Bool, List, drop, ◌↔◌, Ok}
 use Rattle.std.proofs.Math.Path.{refl}
 use Rattle.std.proofs.Common.{sym, ap, ◌∙◌, length-drop, get_or-take, get_or-drop, ext_get_or, length-take-le}
 use Rattle.std.proofs.Math.Bool.{true, false}
@@ -14,7 +14,6 @@ use Rattle.sheetlaws.specs.Sheet.{ar_next, nth, place}
 use Rattle.names.specs.Name.{both}
 use Rattle.names.specs.Laws.{text_exactly}
 use Rattle.sheetparts.specs.Passed.{chain_next, same, ar_next_lem}
-use Rattle.sheetparts.specs.declared.Step.TheVariants.{Next}
 use Rattle.std.proofs.Math.Dec.{ltb}
 use Rattle.std.proofs.Math.ListN.{length, get_or}
 use borrow.Author.Tests.{ltb-true, ltb-false}
@@ -88,7 +87,7 @@ module _ (b c : List ℕ) (l : length c ≡ length b) where
         get_or-drop p c i 0,
       ) (sym (f (p + i) (omega arith) (omega arith))))
 
-  keys-bytes : (n prev p r : ℕ) → p ≤ length b → arcs_step b n prev p ≡ Next r → same_keys b c n p ≡ true
+  keys-bytes : (n prev p r : ℕ) → p ≤ length b → arcs_step b n prev p ≡ Ok r → same_keys b c n p ≡ true
       → (i : ℕ) → p ≤ i → i < r → Outside b n p i → get_or c i 0 ≡ get_or b i 0
   unfolding arcs_step same_keys nth
   keys-bytes zero prev p r h e s i g k o = let z = same e in absurd (omega arith)
@@ -98,7 +97,7 @@ module _ (b c : List ℕ) (l : length c ≡ length b) where
       let t = both (same_text (part b p (values_at b p - p)) (part c p (values_at b p - p))) _ s in
       let q = a.inside in
       let d = a.place in
-      let rest : arcs_step b n p (ar_next b p) ≡ Next r = rw a.place at w.2 in
+      let rest : arcs_step b n p (ar_next b p) ≡ Ok r = rw a.place at w.2 in
       by (ltb i (values_at b p)) refl (ltb i (ar_next b p)) refl ((text_exactly _ _).0 t.0)
       (λ m. keys-bytes n p (ar_next b p) r (omega arith) rest t.1 i m k (outside_tail b n p i o))
     where
@@ -109,7 +108,7 @@ module _ (b c : List ℕ) (l : length c ≡ length b) where
       by false x true f m later = absurd (o 0 (omega arith) (ltb-false _ _ x) (ltb-true _ _ f))
       by false x false f m later = later (ltb-false _ _ f)
 
-  arcs_up : (n prev p r : ℕ) → arcs_step b n prev p ≡ Next r → p ≤ r
+  arcs_up : (n prev p r : ℕ) → arcs_step b n prev p ≡ Ok r → p ≤ r
   unfolding arcs_step
   arcs_up zero prev p r e = let z = same e in omega arith
   arcs_up (suc n) prev p r e =
@@ -119,7 +118,7 @@ module _ (b c : List ℕ) (l : length c ≡ length b) where
       let u = arcs_up n p w.0 r w.2 in
       omega arith
 
-  bytes-keys : (n prev p r : ℕ) → p ≤ length b → arcs_step b n prev p ≡ Next r
+  bytes-keys : (n prev p r : ℕ) → p ≤ length b → arcs_step b n prev p ≡ Ok r
       → ((i : ℕ) → p ≤ i → i < r → Outside b n p i → get_or c i 0 ≡ get_or b i 0) → same_keys b c n p ≡ true
   unfolding arcs_step same_keys
   bytes-keys zero prev p r h e f = refl
@@ -128,14 +127,14 @@ module _ (b c : List ℕ) (l : length c ≡ length b) where
       let a = ar_next_lem b prev p w.0 w.1 in
       let q = a.inside in
       let d = a.place in
-      let rest : arcs_step b n p (ar_next b p) ≡ Next r = rw a.place at w.2 in
+      let rest : arcs_step b n p (ar_next b p) ≡ Ok r = rw a.place at w.2 in
       let u = arcs_up n p (ar_next b p) r rest in
       let k = bytes-part p (values_at b p - p) (omega arith) (λ i g m. f i g (omega arith) (outside-key b (suc n) p i (omega arith))) in
       rw ((text_exactly _ _).1 k)
       (bytes-keys n p (ar_next b p) r (omega arith) rest (λ i g m o. f i (omega arith) m (outside-more b n p i g o)))
 
   -- the law: the test is passed exactly if every byte outside the values is the same
-  pub same_exactly : (n f : ℕ) → f ≤ length b → arcs_step b n 0 f ≡ Next (length b)
+  pub same_exactly : (n f : ℕ) → f ≤ length b → arcs_step b n 0 f ≡ Ok (length b)
       → (same_records b c n f ≡ true) ↔ ((i : ℕ) → i < length b → Outside b n f i → get_or c i 0 ≡ get_or b i 0)
   unfolding same_records
   same_exactly n f h e = (

@@ -4,7 +4,7 @@
 use Prim.Native.Nat.{ℕ, zero, suc, ◌+◌, ◌-◌, ◌*◌, ◌/◌, ◌≤◌, ◌<◌}
 use Rattle.std.proofs.Math.Path.{◌≡◌, refl}
 use Rattle.std.proofs.Common.{ap, ◌∙◌, add-one, zero-mul, mul-div_cancel, div-lt_iff_lt-mul, mul-le-mul, get_or-set_same, get_or-set_other, length-set}
-use Rattle.std.specs.Prelude.{Bool, List, ltb, length, get_or, set}
+use Rattle.std.specs.Prelude.{Bool, List, ltb, length, get_or, set, Option, Some, None}
 use Rattle.std.proofs.Math.Bool.{true, false}
 use native.Mathlib.Omega.{arith}
 use Rattle.std.proofs.Math.Dec.{eqb}
@@ -12,13 +12,11 @@ use borrow.Author.Tests.{ltb-true, eqb-true, eqb-false, eq-eqb, ne_eqb}
 use Rattle.classes.specs.Choice.{pick}
 use Rattle.names.specs.Orders.{Order}
 use Rattle.sheetlaws.specs.Sheet.{nth}
-use Rattle.sheet.specs.declared.Found.{Found}
-use Rattle.sheet.specs.declared.Found.TheVariants.{At, Nothing}
 
 -- the first of n records from p on that has this key
-unfoldable pub search : {A : Type 0} → (ℕ → A) → (ℕ → ℕ) → (A → A → ℕ) → A → ℕ → ℕ → Found
-search key next c k zero p = Nothing
-search key next c k (suc n) p = pick (eqb (c (key p) k) 1) (At p) (search key next c k n (next p))
+unfoldable pub search : {A : Type 0} → (ℕ → A) → (ℕ → ℕ) → (A → A → ℕ) → A → ℕ → ℕ → Option ℕ
+search key next c k zero p = None
+search key next c k (suc n) p = pick (eqb (c (key p) k) 1) (Some p) (search key next c k n (next p))
 
 -- records that rise: what is good of n + 1 records is good of the n behind the first, and the next key is above this one
 pub record Rises {A : Type 0} (key : ℕ → A) (next : ℕ → ℕ) (c : A → A → ℕ) (Good : ℕ → ℕ → Type 0) : Type 0 where
@@ -31,50 +29,54 @@ pub record Marks (next : ℕ → ℕ) (n p k : ℕ) (t : List ℕ) : Type 0 wher
   pub apart : 0 < k
   pub holds : (j : ℕ) → j * k < n → get_or t j 0 ≡ nth next (j * k) p
 
+-- records that stand in b: the first of them is there whole
+abbrev pub Whole : List ℕ → (ℕ → ℕ) → (ℕ → ℕ → Type 0) → Type 0
+Whole b next Good = (n p : ℕ) → Good (suc n) p → (p ≤ length b) × (next p ≤ length b)
+
 module _ {A : Type 0} (key : ℕ → A) (next : ℕ → ℕ) (c : A → A → ℕ) (k : A) where
-  abbrev find : ℕ → ℕ → Found
+  abbrev find : ℕ → ℕ → Option ℕ
   find n p = search key next c k n p
 
   -- one more record
-  pub search-more : (n i p : ℕ) → i < n → find (n - i) p ≡ pick (eqb (c (key p) k) 1) (At p) (find (n - (i + 1)) (next p))
+  pub search-more : (n i p : ℕ) → i < n → find (n - i) p ≡ pick (eqb (c (key p) k) 1) (Some p) (find (n - (i + 1)) (next p))
   unfolding search
   search-more n i p h = let e : n - i ≡ suc (n - (i + 1)) = omega arith in rw e
 
-  pub search_end : (n i p : ℕ) → n ≤ i → find (n - i) p ≡ Nothing
+  pub search_end : (n i p : ℕ) → n ≤ i → find (n - i) p ≡ None
   unfolding search
   search_end n i p h = let e : n - i ≡ zero = omega arith in rw e
 
-  -- At q: q is the place of a record whose key compares as the same
-  pub found : (n p q : ℕ) → find n p ≡ At q → (j : ℕ) × (j < n) × (q ≡ nth next j p) × (c (key q) k ≡ 1)
+  -- Some q: q is the place of a record whose key compares as the same
+  pub found : (n p q : ℕ) → find n p ≡ Some q → (j : ℕ) × (j < n) × (q ≡ nth next j p) × (c (key q) k ≡ 1)
   unfolding search nth
   found zero p q e = let z : ◌≡◌ {A = ℕ} 0 1 = cc in absurd (omega arith)
   found (suc n) p q e = by (eqb (c (key p) k) 1) refl e (found n (next p) q)
     where
-      by : (t : Bool) → eqb (c (key p) k) 1 ≡ t → pick t (At p) (find n (next p)) ≡ At q
-          → (find n (next p) ≡ At q → (j : ℕ) × (j < n) × (q ≡ nth next j (next p)) × (c (key q) k ≡ 1))
+      by : (t : Bool) → eqb (c (key p) k) 1 ≡ t → pick t (Some p) (find n (next p)) ≡ Some q
+          → (find n (next p) ≡ Some q → (j : ℕ) × (j < n) × (q ≡ nth next j (next p)) × (c (key q) k ≡ 1))
           → (j : ℕ) × (j < suc n) × (q ≡ nth next j p) × (c (key q) k ≡ 1)
       by true t e ih = let z : q ≡ p = cc in (0, omega arith, z, rw z (eqb-true _ _ t))
       by false t e ih = let r = ih e in (suc r.0, omega (arith, r.1), r.2, r.3)
 
-  -- Nothing: no record has this key
-  pub absent : (n p j : ℕ) → find n p ≡ Nothing → j < n → c (key (nth next j p)) k ≡ 1 → ⊥
+  -- None: no record has this key
+  pub absent : (n p j : ℕ) → find n p ≡ None → j < n → c (key (nth next j p)) k ≡ 1 → ⊥
   unfolding search nth
   absent zero p j e h = absurd (omega arith)
   absent (suc n) p zero e h = by (eqb (c (key p) k) 1) refl e
     where
-      by : (t : Bool) → eqb (c (key p) k) 1 ≡ t → pick t (At p) (find n (next p)) ≡ Nothing → c (key p) k ≡ 1 → ⊥
+      by : (t : Bool) → eqb (c (key p) k) 1 ≡ t → pick t (Some p) (find n (next p)) ≡ None → c (key p) k ≡ 1 → ⊥
       by true t e g = let z : ◌≡◌ {A = ℕ} 0 1 = cc in omega arith
       by false t e g = eqb-false _ _ t g
   absent (suc n) p (suc j) e h = by (eqb (c (key p) k) 1) e (λ g. absent n (next p) j g (omega arith))
     where
-      by : (t : Bool) → pick t (At p) (find n (next p)) ≡ Nothing
-          → (find n (next p) ≡ Nothing → c (key (nth next j (next p))) k ≡ 1 → ⊥) → c (key (nth next j (next p))) k ≡ 1 → ⊥
+      by : (t : Bool) → pick t (Some p) (find n (next p)) ≡ None
+          → (find n (next p) ≡ None → c (key (nth next j (next p))) k ≡ 1 → ⊥) → c (key (nth next j (next p))) k ≡ 1 → ⊥
       by true e ih = let z : ◌≡◌ {A = ℕ} 0 1 = cc in absurd (omega arith)
       by false e ih = ih e
 
   module _ (Good : ℕ → ℕ → Type 0) (r : Rises key next c Good) where
     -- where the key at p is greater than k, none of the records from p on has it
-    pub beyond : (n p : ℕ) → Good n p → c (key p) k ≡ 2 → find n p ≡ Nothing
+    pub beyond : (n p : ℕ) → Good n p → c (key p) k ≡ 2 → find n p ≡ None
     unfolding search
     beyond zero p g e = refl
     beyond (suc zero) p g e = rw (ne_eqb (c (key p) k) 1 (λ z. omega arith))
@@ -112,6 +114,19 @@ good-at next Good tail (suc j) zero p h g = absurd (omega arith)
 good-at next Good tail (suc j) (suc n) p h g =
     let z : suc n - suc j ≡ n - j = omega arith in
     rw z (good-at next Good tail j n (next p) (omega arith) (tail n p g))
+
+-- Where i of n records are behind, the next one is there whole, and the ones behind it are good.
+module _ (next : ℕ → ℕ) (Good : ℕ → ℕ → Type 0) where
+  pub whole-next : (b : List ℕ) → Whole b next Good → (n i p : ℕ) → i < n → Good (n - i) p → (p ≤ length b) × (next p ≤ length b)
+  whole-next b whole n i p h g = let e : n - i ≡ suc (n - (i + 1)) = omega arith in whole (n - (i + 1)) p (rw e at g)
+
+  pub good-next : ((n p : ℕ) → Good (suc n) p → Good n (next p)) → (n i p : ℕ) → i < n → Good (n - i) p → Good (n - (i + 1)) (next p)
+  good-next tail n i p h g = let e : n - i ≡ suc (n - (i + 1)) = omega arith in tail (n - (i + 1)) p (rw e at g)
+
+  -- so each of them is there
+  pub whole_at : (b : List ℕ) → Whole b next Good → ((n p : ℕ) → Good (suc n) p → Good n (next p)) → (j n p : ℕ) → j < n → Good n p
+      → (nth next j p ≤ length b) × (next (nth next j p) ≤ length b)
+  whole_at b whole tail j n p h g = whole-next b whole n j (nth next j p) h (good-at next Good tail j n p (omega arith) g)
 
 -- one record further
 nth-suc : (next : ℕ → ℕ) (j p : ℕ) → nth next (suc j) p ≡ next (nth next j p)
@@ -228,6 +243,12 @@ marked_marks next n p t l =
 
 -- Searching from a landmark.
 
+-- what a search asks for: good records, and a table with their landmarks
+pub record Search (next : ℕ → ℕ) (Good : ℕ → ℕ → Type 0) (n p : ℕ) (t : List ℕ) : Type 0 where
+  pub good : Good n p
+  pub few : n < 4294967296
+  pub marks : Marks next n p (stride_of n) t
+
 -- the r-th landmark is the first one, or there is one and its key is not greater than k
 abbrev pub NotBeyond : {A : Type 0} → (ℕ → A) → (ℕ → ℕ) → (A → A → ℕ) → A → ℕ → ℕ → ℕ → ℕ → Type 0
 NotBeyond key next c k n p s r = (r ≡ 0 → ⊥) → (r * s < n) × (c (key (nth next (r * s) p)) k ≡ 2 → ⊥)
@@ -237,7 +258,7 @@ module _ {A : Type 0} (key : ℕ → A) (next : ℕ → ℕ) (c : A → A → �
   unfolding nth
   start n p s = let z : n - 0 ≡ n = omega arith in rw (zero-mul s, z)
 
-  none_left : (p : ℕ) → search key next c k 0 p ≡ Nothing
+  none_left : (p : ℕ) → search key next c k 0 p ≡ None
   unfolding search
   none_left p = refl
 
@@ -254,10 +275,10 @@ module _ {A : Type 0} (key : ℕ → A) (next : ℕ → ℕ) (c : A → A → �
       by false t = (finger key next c k Good r (j * s) n p h g (b (eqb-false j 0 t)).1).0
 
   -- and where the j-th landmark is none, there are no records
-  pub no_marks : (n p s j : ℕ) → NotBeyond key next c k n p s j → n ≤ j * s → search key next c k n p ≡ Nothing
+  pub no_marks : (n p s j : ℕ) → NotBeyond key next c k n p s j → n ≤ j * s → search key next c k n p ≡ None
   no_marks n p s j b h = by (eqb j 0) refl
     where
-      by : (t : Bool) → eqb j 0 ≡ t → search key next c k n p ≡ Nothing
+      by : (t : Bool) → eqb j 0 ≡ t → search key next c k n p ≡ None
       by true t = rw (zero_of n (j * s) h (rw (eqb-true j 0 t) (zero-mul s))) (none_left p)
       by false t = let z = (b (eqb-false j 0 t)).0 in absurd (omega arith)
 

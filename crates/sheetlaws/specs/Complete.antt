@@ -1,7 +1,7 @@
 -- The encoding of what is well formed is read back, without a fault.
 -- Assumes nothing.
 use Prim.Native.Nat.{ℕ, suc, ◌+◌, ◌-◌, ◌*◌, ◌/◌, ◌%◌, ◌≤◌, ◌<◌}
-use Rattle.std.specs.Prelude.{◌≡◌, Bool, ℤ, take, drop}
+use Rattle.std.specs.Prelude.{◌≡◌, Bool, ℤ, take, drop, Ok}
 use Rattle.std.proofs.Math.Path.{refl, sym, ap}
 use Rattle.std.proofs.Common.{◌∙◌, length-append, length-drop, drop-drop, get_or-drop, take_at, drop_at, SFits, to_z, of_z}
 use Rattle.std.proofs.Math.Bool.{true, false}
@@ -19,7 +19,6 @@ use Rattle.sheetparts.specs.Form.{cmp_key, Key, second_most, one_end, value_ok, 
 use Rattle.sheetparts.specs.Passed.{ArGood, values_next}
 use Rattle.sheetlaws.specs.Goes.{value-is, key-is, fields_is}
 use Rattle.sheetlaws.specs.Sheet.{none, key, Arc, enc_text, enc_value, enc_values, enc_key, enc_arc, enc_arcs, values_ok, Fit, ArcOk, From, Above, ArcsOk, values_of, ar_next, arcs_at}
-use Rattle.sheetparts.specs.declared.Step.TheVariants.{Next}
 
 pub split : (t : Bool) (x : Bool) → pick t x false ≡ true → (t ≡ true) × (x ≡ true)
 split true x e = (refl, e)
@@ -73,7 +72,7 @@ module _ (b : List ℕ) where
       (ap (to_z w64) n ∙ to_z-of_z w64 z f, n, u.1, u.2)
 
   un_values : (k i p : ℕ) (zs : List ℤ) (t : List ℕ) → Fit zs → values_ok k i zs ≡ true → drop p b ≡ enc_values zs t
-      → (values_of b (length zs) p ≡ zs) × (values_step b k (length zs) i p ≡ Next (p + 8 * length zs)) × (drop (p + 8 * length zs) b ≡ t)
+      → (values_of b (length zs) p ≡ zs) × (values_step b k (length zs) i p ≡ Ok (p + 8 * length zs)) × (drop (p + 8 * length zs) b ≡ t)
   unfolding enc_values values_ok values_of values_step
   un_values k i p [] t f o e = let s : p + 8 * 0 ≡ p = omega arith in rw s (refl, refl, e)
   un_values k i p (z ∷ zs) t f o e =
@@ -163,7 +162,7 @@ module _ (b : List ℕ) where
   Known none prev = prev ≡ 0
   Known (key k) prev = (prev ≡ 0 → ⊥) × (key_at b prev ≡ k)
 
-  goes : (f : From) (prev p r : ℕ) (k : Key) → Known f prev → key_at b p ≡ k → Above f k → ArGood b p r → ar_step b prev p ≡ Next r
+  goes : (f : From) (prev p r : ℕ) (k : Key) → Known f prev → key_at b p ≡ k → Above f k → ArGood b p r → ar_step b prev p ≡ Ok r
   unfolding ar_step order_step
   goes none prev p r k h e u g = rw (eq-eqb prev 0 h) (fields_is b p r g)
   goes (key j) prev p r k h e u g =
@@ -171,7 +170,7 @@ module _ (b : List ℕ) where
 
   -- complete: the encoding of a well-formed list is read back, without a fault
   pub arcs_complete : (f : From) (xs : List Arc) (prev p : ℕ) (t : List ℕ) → 0 < p → Known f prev → ArcsOk f xs → drop p b ≡ enc_arcs xs t
-      → (arcs_at b (length xs) p ≡ xs) × ((r : ℕ) × (arcs_step b (length xs) prev p ≡ Next r) × (drop r b ≡ t))
+      → (arcs_at b (length xs) p ≡ xs) × ((r : ℕ) × (arcs_step b (length xs) prev p ≡ Ok r) × (drop r b ≡ t))
   unfolding arcs_step enc_arcs arcs_at
   arcs_complete f [] prev p t h k o e = (refl, (p, refl, e))
   arcs_complete f (a ∷ xs) prev p t h k o e =

@@ -1,7 +1,7 @@
 -- Instances: both ways, as for arcs.
 -- Assumes nothing.
 use Prim.Native.Nat.{ℕ, zero, suc, ◌+◌, ◌≤◌, ◌<◌}
-use Rattle.std.specs.Prelude.{◌≡◌, eqb, get_or, drop}
+use Rattle.std.specs.Prelude.{◌≡◌, eqb, get_or, drop, Ok}
 use Rattle.std.proofs.Math.Path.{refl, ap}
 use Rattle.std.proofs.Common.{◌∙◌}
 use mathlib.Core.List.{List, [], ◌∷◌}
@@ -16,29 +16,28 @@ use Rattle.sheetparts.specs.Passed.{chain_next, clear, same, InGood, in_next, in
 use Rattle.sheetlaws.specs.Goes.{path-is, in_fields_is}
 use Rattle.sheetlaws.specs.Sound.{span_byte, span_text, part_length}
 use Rattle.sheetlaws.specs.Complete.{un_byte, un_text}
-use Rattle.sheetparts.specs.declared.Step.TheVariants.{Next}
 
 module _ (b : List ℕ) where
   abbrev KnownPath : FromPath → ℕ → Type 0
   KnownPath first prev = prev ≡ 0
   KnownPath (after x) prev = (prev ≡ 0 → ⊥) × (path_at b prev ≡ x)
 
-  in_ordered : (prev p q v : ℕ) → (prev ≡ 0 → ⊥) → path_step b p ≡ Next v → in_order_step b prev p ≡ Next q → cmp (path_at b prev) (path_at b p) ≡ 0
+  in_ordered : (prev p q v : ℕ) → (prev ≡ 0 → ⊥) → path_step b p ≡ Ok v → in_order_step b prev p ≡ Ok q → cmp (path_at b prev) (path_at b p) ≡ 0
   unfolding in_order_step
   in_ordered prev p q v nz k e =
-      eqb-true _ _ (clear (eqb (cmp (path_at b prev) (path_at b p)) 0) (Next p) 19 p q (rw (ne_eqb prev 0 nz, k) at e)).0
+      eqb-true _ _ (clear (eqb (cmp (path_at b prev) (path_at b p)) 0) (Ok p) 19 p q (rw (ne_eqb prev 0 nz, k) at e)).0
 
-  pub in_rises : (prev p r : ℕ) → (prev ≡ 0 → ⊥) → in_step b prev p ≡ Next r → cmp (path_at b prev) (path_at b p) ≡ 0
+  pub in_rises : (prev p r : ℕ) → (prev ≡ 0 → ⊥) → in_step b prev p ≡ Ok r → cmp (path_at b prev) (path_at b p) ≡ 0
   unfolding in_step
   in_rises prev p r nz e =
       let o = chain_next (in_order_step b prev p) _ r e in
       in_ordered prev p o.0 (p + 4 + path_len b p) nz (path-is b p r (in_fields_next b p r o.2)) o.1
 
-  in_above : (f : FromPath) (prev p r : ℕ) → KnownPath f prev → in_step b prev p ≡ Next r → AbovePath f (path_at b p)
+  in_above : (f : FromPath) (prev p r : ℕ) → KnownPath f prev → in_step b prev p ≡ Ok r → AbovePath f (path_at b p)
   in_above first prev p r h e = tt
   in_above (after x) prev p r h e = rw h.1 at (in_rises prev p r h.0 e)
 
-  in_goes : (f : FromPath) (prev p r : ℕ) (x : List ℕ) → KnownPath f prev → path_at b p ≡ x → AbovePath f x → InGood b p r → in_step b prev p ≡ Next r
+  in_goes : (f : FromPath) (prev p r : ℕ) (x : List ℕ) → KnownPath f prev → path_at b p ≡ x → AbovePath f x → InGood b p r → in_step b prev p ≡ Ok r
   unfolding in_step in_order_step
   in_goes first prev p r x h e u g = rw (eq-eqb prev 0 h) (in_fields_is b p r g)
   in_goes (after y) prev p r x h e u g =
@@ -75,7 +74,7 @@ module _ (b : List ℕ) where
         let l2 = part_length b bytes (p + 6 + path_len b p) (type_len b p) (omega arith) in
         record { path = (rw l1 g.path.0, g.path.1); type = (rw l2 g.type.0, g.type.1) }
 
-    pub ins_sound : (n : ℕ) (f : FromPath) (prev p r : ℕ) → 0 < p → KnownPath f prev → ins_step b n prev p ≡ Next r
+    pub ins_sound : (n : ℕ) (f : FromPath) (prev p r : ℕ) → 0 < p → KnownPath f prev → ins_step b n prev p ≡ Ok r
         → (drop p b ≡ enc_ins (ins_at b n p) (drop r b)) × InsOk f (ins_at b n p) × (length (ins_at b n p) ≡ n) × (p ≤ r)
     unfolding ins_step enc_ins ins_at
     ins_sound zero f prev p r h k e = let s = same e in (rw s refl, tt, refl, omega arith)
@@ -141,7 +140,7 @@ module _ (b : List ℕ) where
 
   pub ins_complete : (f : FromPath) (xs : List Instance) (prev p : ℕ) (t : List ℕ) → 0 < p → p ≤ length b → KnownPath f prev → InsOk f xs
       → drop p b ≡ enc_ins xs t
-      → (ins_at b (length xs) p ≡ xs) × ((r : ℕ) × (ins_step b (length xs) prev p ≡ Next r) × (drop r b ≡ t) × (p ≤ r) × (r ≤ length b))
+      → (ins_at b (length xs) p ≡ xs) × ((r : ℕ) × (ins_step b (length xs) prev p ≡ Ok r) × (drop r b ≡ t) × (p ≤ r) × (r ≤ length b))
   unfolding ins_step enc_ins ins_at
   ins_complete f [] prev p t h y k o e = (refl, (p, refl, e, omega arith, y))
   ins_complete f (i ∷ xs) prev p t h y k o e =

@@ -3,7 +3,7 @@
 use Prim.Native.Nat.{ℕ, zero, suc, ◌+◌, ◌*◌, ◌/◌, ◌%◌, ◌<◌}
 use Rattle.std.proofs.Math.Path.{◌≡◌, refl}
 use Rattle.std.proofs.Common.{sym, ap, ◌∙◌, length-append, length-set, SFits, of_z}
-use Rattle.std.specs.Prelude.{Bool, leb, ℤ, length, set}
+use Rattle.std.specs.Prelude.{Bool, leb, ℤ, length, set, Ok, Err}
 use Rattle.std.proofs.Math.Bool.{true, false}
 use mathlib.Core.List.{List, [], ◌∷◌, ◌++◌}
 use native.Mathlib.Omega.{arith}
@@ -12,11 +12,8 @@ use Rattle.std.proofs.Math.Seq.{paste}
 use Rattle.std.specs.Int.{w64}
 use Rattle.classes.specs.Choice.{pick}
 use Rattle.wire.specs.Wire.{Bytes, be32, be_bytes, enc16, enc32}
-use Rattle.sheetparts.specs.Form.{Key, reach, value_ok, values_at, path_len, type_len, in_step, ins_step, head_step, front_step, back_step, verdict, check_of}
-use Rattle.sheetparts.specs.Passed.{chain_next, same, in_next, head_next}
-use Rattle.sheetparts.specs.declared.Step.{Step}
-use Rattle.sheetparts.specs.declared.Step.TheVariants.{Next, Fault}
-use Rattle.sheetparts.specs.declared.SheetCheck.TheVariants.{Good, Bad}
+use Rattle.sheetparts.specs.Form.{Good, Step, faulty, Key, reach, value_ok, values_at, path_len, type_len, in_step, ins_step, head_step, front_step, back_step, verdict, check_of}
+use Rattle.sheetparts.specs.Passed.{same_good, chain_next, same, in_next, head_next}
 use Rattle.sheetlaws.specs.Sheet.{Arc, Instance, Sheet, enc_values, enc_key, enc_arcs, enc_in, enc_ins, encode, none, WellFormed, sheet, decode, place, in_end, ins_at, arcs_at}
 use Rattle.sheetlaws.specs.Sound.{part_length}
 use Rattle.sheetlaws.specs.Values.{paste-behind, set_slot, off, All18, all18, arcs_paste, kind_of, set_ok, length-set_slot, off-place}
@@ -115,7 +112,7 @@ set_formed s j i z v f w =
 -- The place that the code computes is that slot's.
 
 module _ (b : List ℕ) (bytes : Bytes b) where
-  ins_end : (n prev p f : ℕ) → ins_step b n prev p ≡ Next f → f ≡ p + ins_len (ins_at b n p)
+  ins_end : (n prev p f : ℕ) → ins_step b n prev p ≡ Ok f → f ≡ p + ins_len (ins_at b n p)
   unfolding ins_step ins_at
   ins_end zero prev p f e = let z = same e in omega arith
   ins_end (suc n) prev p f e =
@@ -128,22 +125,22 @@ module _ (b : List ℕ) (bytes : Bytes b) where
       let y = part_length b bytes (p + 6 + path_len b p) (type_len b p) (omega arith) in
       omega (arith, h, x, y)
 
-  pub first-place : (f : ℕ) → front_step b ≡ Next f → f ≡ 12 + ins_len (ins_at b (be32 b 4) 12)
+  pub first-place : (f : ℕ) → front_step b ≡ Ok f → f ≡ 12 + ins_len (ins_at b (be32 b 4) 12)
   unfolding front_step
   first-place f e =
       let o = chain_next (head_step b) _ f e in
       ins_end (be32 b 4) 0 12 f (rw (head_next b o.0 o.1).0 at o.2)
 
   -- what a good sheet is
-  pub good-parts : (n m f : ℕ) → check_of b ≡ Good n m f → (front_step b ≡ Next f) × (n ≡ be32 b 4)
+  pub good-parts : (n m f : ℕ) → check_of b ≡ Good n m f → (front_step b ≡ Ok f) × (n ≡ be32 b 4)
   unfolding check_of
   good-parts n m f e = go (leb (length b) 16777216) (front_step b) (back_step b (reach (front_step b))) e
     where
-      go : (t : Bool) (x z : Step) → pick t (verdict x (verdict z (Good (be32 b 4) (be32 b 8) (reach x)))) (Bad 10 0) ≡ Good n m f
-          → (x ≡ Next f) × (n ≡ be32 b 4)
-      go true (Next g) (Next q) e = (cc, cc)
-      go true (Next g) (Fault k p) e = let z : ◌≡◌ {A = ℕ} 0 1 = cc in absurd (omega arith)
-      go true (Fault k p) z e = let z : ◌≡◌ {A = ℕ} 0 1 = cc in absurd (omega arith)
+      go : (t : Bool) (x z : Step) → pick t (verdict x (verdict z (Good (be32 b 4) (be32 b 8) (reach x)))) (faulty 10 0) ≡ Good n m f
+          → (x ≡ Ok f) × (n ≡ be32 b 4)
+      go true (Ok g) (Ok q) e = let s = same_good e in (ap Ok s.2, sym s.0)
+      go true (Ok g) (Err d) e = let z : ◌≡◌ {A = ℕ} 0 1 = cc in absurd (omega arith)
+      go true (Err d) z e = let z : ◌≡◌ {A = ℕ} 0 1 = cc in absurd (omega arith)
       go false x z e = let z : ◌≡◌ {A = ℕ} 0 1 = cc in absurd (omega arith)
 
   pub good-decode : (n m f : ℕ) → check_of b ≡ Good n m f → decode b ≡ sheet (record { instances = ins_at b n 12; arcs = arcs_at b m f })
@@ -155,13 +152,12 @@ module _ (b : List ℕ) (bytes : Bytes b) where
   arcs_from m f n e = go (leb (length b) 16777216) (front_step b) refl (back_step b (reach (front_step b))) refl e
     where
       go : (t : Bool) (x : Step) → front_step b ≡ x → (z : Step) → back_step b (reach x) ≡ z
-          → pick t (verdict x (verdict z (Good (be32 b 4) (be32 b 8) (reach x)))) (Bad 10 0) ≡ Good n m f → drop f b ≡ enc_arcs (arcs_at b m f) []
-      go true (Next g) e1 (Next q) e2 e =
-          let c : f ≡ g = cc in
-          let d : m ≡ be32 b 8 = cc in
-          rw (c, d) (arcs_to_end b bytes g q e1 e2)
-      go true (Next g) e1 (Fault k p) e2 e = let z : ◌≡◌ {A = ℕ} 0 1 = cc in absurd (omega arith)
-      go true (Fault k p) e1 z e2 e = let z : ◌≡◌ {A = ℕ} 0 1 = cc in absurd (omega arith)
+          → pick t (verdict x (verdict z (Good (be32 b 4) (be32 b 8) (reach x)))) (faulty 10 0) ≡ Good n m f → drop f b ≡ enc_arcs (arcs_at b m f) []
+      go true (Ok g) e1 (Ok q) e2 e =
+          let s = same_good e in
+          rw (← s.2, ← s.1) (arcs_to_end b bytes g q e1 e2)
+      go true (Ok g) e1 (Err d) e2 e = let z : ◌≡◌ {A = ℕ} 0 1 = cc in absurd (omega arith)
+      go true (Err d) e1 z e2 e = let z : ◌≡◌ {A = ℕ} 0 1 = cc in absurd (omega arith)
       go false x e1 z e2 e = let z : ◌≡◌ {A = ℕ} 0 1 = cc in absurd (omega arith)
 
   -- the law: after a value that may stand in slot i of arc j is written there, the bytes spell the sheet with that slot set

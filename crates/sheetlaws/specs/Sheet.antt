@@ -1,13 +1,11 @@
 -- A timing sheet as lists; its bytes; what is well formed. Each `enc` takes the bytes that follow.
 -- Assumes nothing.
-use Rattle.std.specs.Prelude.{ℕ, zero, suc, ◌+◌, ◌≤◌, ◌<◌, ◌≡◌, Bool, true, false, List, [], ◌∷◌, ◌++◌, ℤ, length}
+use Rattle.std.specs.Prelude.{ℕ, zero, suc, ◌+◌, ◌≤◌, ◌<◌, ◌≡◌, Bool, true, false, List, [], ◌∷◌, ◌++◌, ℤ, length, Ok, Err}
 use Rattle.std.specs.Int.{w64}
 use Rattle.std.proofs.Common.{SFits, to_z, of_z}
 use Rattle.wire.specs.Wire.{be_bytes, be64, enc16, enc32}
 use Rattle.classes.specs.Choice.{pick}
-use Rattle.sheetparts.specs.Form.{shape_ok, check_of, cmp_key, Key, edge_top, edge_top2, second_least, second_most, value_ok, values_at, key_at, path_len, type_len, path_at, type_at}
-use Rattle.sheetparts.specs.declared.SheetCheck.{SheetCheck}
-use Rattle.sheetparts.specs.declared.SheetCheck.TheVariants.{Good, Bad}
+use Rattle.sheetparts.specs.Form.{SheetCheck, shape_ok, check_of, cmp_key, Key, edge_top, edge_top2, second_least, second_most, value_ok, values_at, key_at, path_len, type_len, path_at, type_at}
 use Rattle.names.specs.Order.{cmp}
 use Rattle.kinds.specs.Kinds.{is_kind}
 
@@ -151,8 +149,8 @@ pub data Decoded : Type 0 where
   fault : ℕ → ℕ → Decoded
 
 abbrev pub decode_of : List ℕ → SheetCheck → Decoded
-decode_of b (Good n m f) = sheet (record { instances = ins_at b n 12; arcs = arcs_at b m f })
-decode_of b (Bad k p) = fault k p
+decode_of b (Ok o) = sheet (record { instances = ins_at b o.instances 12; arcs = arcs_at b o.arcs o.first_arc })
+decode_of b (Err d) = fault d.number d.place
 
 unfoldable pub decode : List ℕ → Decoded
 decode b = decode_of b (check_of b)

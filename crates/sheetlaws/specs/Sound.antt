@@ -1,7 +1,7 @@
 -- A record in which no step has found a fault is the encoding of what is read there.
 -- Assumes nothing.
 use Prim.Native.Nat.{ℕ, zero, suc, ◌+◌, ◌*◌, ◌/◌, ◌%◌, ◌≤◌, ◌<◌, ◌^◌}
-use Rattle.std.specs.Prelude.{◌≡◌, true, List, ◌∷◌, ◌++◌, eqb}
+use Rattle.std.specs.Prelude.{◌≡◌, true, List, ◌∷◌, ◌++◌, eqb, Ok}
 use Rattle.std.proofs.Math.Path.{refl, ap}
 use Rattle.std.proofs.Common.{sym, ◌∙◌, add-one, take-append-drop, length-drop, drop-cons, drop-drop, length-take-le, to_z}
 use native.Mathlib.Omega.{arith}
@@ -13,7 +13,6 @@ use Rattle.wire.specs.Round.{eight_digits}
 use Rattle.sheetparts.specs.Form.{cmp_key, value_step, values_step, first_len, second_len, values_at, key_at, key_step, order_step, ar_step, arcs_step}
 use Rattle.sheetparts.specs.Passed.{chain_next, clear, same, value-next, ArGood, ar_next_lem, fields_next}
 use Rattle.sheetlaws.specs.Sheet.{none, key, enc_text, enc_value, enc_values, enc_key, enc_arc, enc_arcs, values_ok, Fit, ArcOk, From, Above, ArcsOk, values_of, arc_at, ar_next, arcs_at}
-use Rattle.sheetparts.specs.declared.Step.TheVariants.{Next}
 use mir.Syntax.{w64}
 use mir.ValLaws.{of_z-to_z, to_z-Fits}
 
@@ -71,7 +70,7 @@ module _ (b : List ℕ) (bytes : Bytes b) where
           (bytes p) (bytes (p + 1)) (bytes (p + 2)) (bytes (p + 3)) (bytes (p + 4)) (bytes (p + 5)) (bytes (p + 6)) (bytes (p + 7)) in
           eight_bytes p q e h ∙ ap (λ l. l ++ drop q b) (sym d)
 
-  span_values : (k n i p r : ℕ) → values_step b k n i p ≡ Next r → drop p b ≡ enc_values (values_of b n p) (drop r b)
+  span_values : (k n i p r : ℕ) → values_step b k n i p ≡ Ok r → drop p b ≡ enc_values (values_of b n p) (drop r b)
   unfolding values_step enc_values values_of
   span_values k zero i p r e = rw (same e)
   span_values k (suc n) i p r e =
@@ -107,7 +106,7 @@ module _ (b : List ℕ) (bytes : Bytes b) where
       (span_values (get_or b (p + 2) 0) 18 0 (values_at b p) r g.values)))))))))
 
   -- what is read is well formed
-  values_ok_lem : (k n i p r : ℕ) → values_step b k n i p ≡ Next r
+  values_ok_lem : (k n i p r : ℕ) → values_step b k n i p ≡ Ok r
       → (length (values_of b n p) ≡ n) × (values_ok k i (values_of b n p) ≡ true) × Fit (values_of b n p)
   unfolding values_step values_ok values_of
   values_ok_lem k zero i p r e = (refl, refl, tt)
@@ -143,12 +142,12 @@ module _ (b : List ℕ) (bytes : Bytes b) where
       }
 
   -- the order that the steps have judged
-  ordered : (prev p q v : ℕ) → (prev ≡ 0 → ⊥) → key_step b p ≡ Next v → order_step b prev p ≡ Next q → cmp_key (key_at b prev) (key_at b p) ≡ 0
+  ordered : (prev p q v : ℕ) → (prev ≡ 0 → ⊥) → key_step b p ≡ Ok v → order_step b prev p ≡ Ok q → cmp_key (key_at b prev) (key_at b p) ≡ 0
   unfolding order_step
   ordered prev p q v nz k e =
-      eqb-true _ _ (clear (eqb (cmp_key (key_at b prev) (key_at b p)) 0) (Next p) 19 p q (rw (ne_eqb prev 0 nz, k) at e)).0
+      eqb-true _ _ (clear (eqb (cmp_key (key_at b prev) (key_at b p)) 0) (Ok p) 19 p q (rw (ne_eqb prev 0 nz, k) at e)).0
 
-  pub rises : (prev p r : ℕ) → (prev ≡ 0 → ⊥) → ar_step b prev p ≡ Next r → cmp_key (key_at b prev) (key_at b p) ≡ 0
+  pub rises : (prev p r : ℕ) → (prev ≡ 0 → ⊥) → ar_step b prev p ≡ Ok r → cmp_key (key_at b prev) (key_at b p) ≡ 0
   unfolding ar_step
   rises prev p r nz e =
       let o = chain_next (order_step b prev p) _ r e in
@@ -158,12 +157,12 @@ module _ (b : List ℕ) (bytes : Bytes b) where
   Known none prev = prev ≡ 0
   Known (key k) prev = (prev ≡ 0 → ⊥) × (key_at b prev ≡ k)
 
-  above : (f : From) (prev p r : ℕ) → Known f prev → ar_step b prev p ≡ Next r → Above f (key_at b p)
+  above : (f : From) (prev p r : ℕ) → Known f prev → ar_step b prev p ≡ Ok r → Above f (key_at b p)
   above none prev p r h e = tt
   above (key k) prev p r h e = rw h.1 at (rises prev p r h.0 e)
 
   -- sound: arcs without a fault are the encoding of a well-formed list
-  pub arcs_sound : (n : ℕ) (f : From) (prev p r : ℕ) → 0 < p → Known f prev → arcs_step b n prev p ≡ Next r
+  pub arcs_sound : (n : ℕ) (f : From) (prev p r : ℕ) → 0 < p → Known f prev → arcs_step b n prev p ≡ Ok r
       → (drop p b ≡ enc_arcs (arcs_at b n p) (drop r b)) × ArcsOk f (arcs_at b n p)
   unfolding arcs_step enc_arcs arcs_at
   arcs_sound zero f prev p r h k e = (rw (same e), tt)

@@ -1,6 +1,6 @@
 -- Setting one value is setting one slot of the sheet that the bytes spell.
 -- Assumes nothing.
-use Rattle.std.specs.Prelude.{ℕ, zero, suc, ◌+◌, ◌*◌, ◌/◌, ◌%◌, ◌≤◌, ◌<◌, ◌≡◌, refl, true, List, [], ◌∷◌, ◌++◌, ℤ, length, take, drop, set}
+use Rattle.std.specs.Prelude.{ℕ, zero, suc, ◌+◌, ◌*◌, ◌/◌, ◌%◌, ◌≤◌, ◌<◌, ◌≡◌, refl, true, List, [], ◌∷◌, ◌++◌, ℤ, length, take, drop, set, Ok}
 use Rattle.std.proofs.Common.{sym, ap, ◌∙◌, append_assoc, arith, add-zero, zero-add, length-drop, length-set, take-append-drop, length-take-le, drop_at, SFits, of_z}
 use Rattle.std.proofs.Math.Seq.{paste, take-append-add, drop-append-add, drop-append_seam}
 use Rattle.std.specs.Int.{w64}
@@ -9,7 +9,6 @@ use Rattle.sheetparts.specs.Form.{Key, first_len, second_len, values_at, key_at,
 use Rattle.sheetlaws.specs.Sheet.{nth, place, none, key, Arc, enc_values, enc_key, enc_arcs, values_ok, Fit, From, ArcsOk, ar_next, arcs_at}
 use Rattle.sheetlaws.specs.Complete.{arcs_complete, split, un_arc}
 use Rattle.sheetparts.specs.Passed.{ArGood}
-use Rattle.sheetparts.specs.declared.Step.TheVariants.{Next}
 
 -- what is pasted behind x
 pub paste-behind : (x t s : List ℕ) (i n : ℕ) → paste (x ++ t) (length x + i) s n ≡ x ++ paste t i s n
@@ -159,7 +158,7 @@ length-set_slot (a ∷ xs) (suc j) i z = ap suc (length-set_slot xs j i z)
 pub set_value : (b : List ℕ) (xs : List Arc) (t : List ℕ) (p j i : ℕ) (z : ℤ) → 0 < p → p ≤ length b → drop p b ≡ enc_arcs xs t → ArcsOk none xs
     → j < length xs → i < 18 → value_ok (kind_of xs j) i (of_z w64 z) ≡ true → SFits w64 z
     → (arcs_at (paste b (p + (off xs j + 8 * i)) (be_bytes (of_z w64 z)) 8) (length xs) p ≡ set_slot xs j i z)
-    × ((r : ℕ) × (arcs_step (paste b (p + (off xs j + 8 * i)) (be_bytes (of_z w64 z)) 8) (length xs) 0 p ≡ Next r)
+    × ((r : ℕ) × (arcs_step (paste b (p + (off xs j + 8 * i)) (be_bytes (of_z w64 z)) 8) (length xs) 0 p ≡ Ok r)
     × (drop r (paste b (p + (off xs j + 8 * i)) (be_bytes (of_z w64 z)) 8) ≡ t))
 set_value b xs t p j i z h l e o hj hi v f =
     let d : drop p (paste b (p + (off xs j + 8 * i)) (be_bytes (of_z w64 z)) 8) ≡ enc_arcs (set_slot xs j i z) t

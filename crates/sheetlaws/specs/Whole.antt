@@ -1,6 +1,6 @@
 -- The whole sheet: decode gives s exactly if s is well formed and encodes to these bytes.
 -- Assumes nothing.
-use Rattle.std.specs.Prelude.{ℕ, zero, suc, ◌+◌, ◌-◌, ◌/◌, ◌%◌, ◌≤◌, ◌<◌, ◌≡◌, Bool, true, false, ◌↔◌, leb, eqb}
+use Rattle.std.specs.Prelude.{ℕ, zero, suc, ◌+◌, ◌-◌, ◌/◌, ◌%◌, ◌≤◌, ◌<◌, ◌≡◌, Bool, true, false, ◌↔◌, leb, eqb, Ok, Err}
 use Rattle.std.proofs.Math.Path.{refl, ap}
 use Rattle.std.proofs.Common.{sym, ◌∙◌, length-drop}
 use mathlib.Core.List.{List, [], ◌∷◌}
@@ -9,7 +9,7 @@ use Rattle.std.proofs.Math.ListN.{length, get_or, drop, drop_of_length-le}
 use borrow.Author.Tests.{eqb-true, eq-eqb, le-leb, leb-true}
 use Rattle.classes.specs.Choice.{pick}
 use Rattle.wire.specs.Wire.{be32, enc32, Bytes}
-use Rattle.sheetparts.specs.Form.{reach, ar_step, arcs_step, ins_step, head_step, end_step, front_step, back_step, verdict, check_of}
+use Rattle.sheetparts.specs.Form.{Good, Step, faulty, reach, ar_step, arcs_step, ins_step, head_step, end_step, front_step, back_step, verdict, check_of}
 use Rattle.sheetlaws.specs.Sheet.{none, first, Sheet, enc_ins, enc_arcs, encode, ins_at, arcs_at, ar_next, WellFormed, sheet, fault, decode_of, decode}
 use Rattle.sheetparts.specs.Passed.{chain_next, clear, same, ar_next_lem, head_next}
 use Rattle.sheetlaws.specs.Goes.{head_is}
@@ -17,16 +17,13 @@ use Rattle.wire.specs.Round.{four, round32}
 use Rattle.sheetlaws.specs.Sound.{span_byte, span16, arcs_sound}
 use Rattle.sheetlaws.specs.Complete.{un_byte, un16, arcs_complete}
 use Rattle.sheetlaws.specs.Instances.{ins_sound, ins_complete}
-use Rattle.sheetparts.specs.declared.Step.{Step}
-use Rattle.sheetparts.specs.declared.Step.TheVariants.{Next, Fault}
-use Rattle.sheetparts.specs.declared.SheetCheck.TheVariants.{Good, Bad}
 
 pub length-arcs_at : (b : List ℕ) (n p : ℕ) → length (arcs_at b n p) ≡ n
 unfolding arcs_at
 length-arcs_at b zero p = refl
 length-arcs_at b (suc n) p = ap suc (length-arcs_at b n (ar_next b p))
 
-arcs_inside : (b : List ℕ) (n prev p r : ℕ) → p ≤ length b → arcs_step b n prev p ≡ Next r → r ≤ length b
+arcs_inside : (b : List ℕ) (n prev p r : ℕ) → p ≤ length b → arcs_step b n prev p ≡ Ok r → r ≤ length b
 unfolding arcs_step
 arcs_inside b zero prev p r h e = let s = same e in omega arith
 arcs_inside b (suc n) prev p r h e =
@@ -58,13 +55,13 @@ module _ (b : List ℕ) where
       let s3 : p + 3 + 1 ≡ p + 4 = omega arith in
       (rw (u.0, v.0, w.0, x.0) (round32 n), rw s3 at x.1, omega arith)
 
-  end_next : (p q : ℕ) → end_step b p ≡ Next q → p ≡ length b
+  end_next : (p q : ℕ) → end_step b p ≡ Ok q → p ≡ length b
   unfolding end_step
-  end_next p q e = eqb-true _ _ (clear (eqb p (length b)) (Next p) 10 p q e).0
+  end_next p q e = eqb-true _ _ (clear (eqb p (length b)) (Ok p) 10 p q e).0
 
   -- no fault: well formed, and these bytes
-  whole : Bytes b → length b ≤ 16777216 → (q0 f r q : ℕ) → head_step b ≡ Next q0 → ins_step b (be32 b 4) 0 q0 ≡ Next f
-      → arcs_step b (be32 b 8) 0 f ≡ Next r → end_step b r ≡ Next q
+  whole : Bytes b → length b ≤ 16777216 → (q0 f r q : ℕ) → head_step b ≡ Ok q0 → ins_step b (be32 b 4) 0 q0 ≡ Ok f
+      → arcs_step b (be32 b 8) 0 f ≡ Ok r → end_step b r ≡ Ok q
       → (WellFormed (record { instances = ins_at b (be32 b 4) 12; arcs = arcs_at b (be32 b 8) f }))
       × (encode (record { instances = ins_at b (be32 b 4) 12; arcs = arcs_at b (be32 b 8) f }) ≡ b)
   unfolding encode
@@ -97,7 +94,7 @@ module _ (b : List ℕ) where
       )
 
 -- the arcs stand up to the end
-pub arcs_to_end : (b : List ℕ) → Bytes b → (f q : ℕ) → front_step b ≡ Next f → back_step b f ≡ Next q → drop f b ≡ enc_arcs (arcs_at b (be32 b 8) f) []
+pub arcs_to_end : (b : List ℕ) → Bytes b → (f q : ℕ) → front_step b ≡ Ok f → back_step b f ≡ Ok q → drop f b ≡ enc_arcs (arcs_at b (be32 b 8) f) []
 unfolding front_step back_step
 arcs_to_end b y f q e1 e2 =
     let o = chain_next (head_step b) _ f e1 in
@@ -116,7 +113,7 @@ inj e = cc
 no_fault : {X : Type 0} {k p : ℕ} {s : Sheet} → fault k p ≡ sheet s → X
 no_fault e = let z : ◌≡◌ {A = ℕ} 0 1 = cc in absurd (omega arith)
 
-mains : (b : List ℕ) → Bytes b → (f q : ℕ) → length b ≤ 16777216 → front_step b ≡ Next f → back_step b f ≡ Next q
+mains : (b : List ℕ) → Bytes b → (f q : ℕ) → length b ≤ 16777216 → front_step b ≡ Ok f → back_step b f ≡ Ok q
     → (WellFormed (record { instances = ins_at b (be32 b 4) 12; arcs = arcs_at b (be32 b 8) f }))
     × (encode (record { instances = ins_at b (be32 b 4) 12; arcs = arcs_at b (be32 b 8) f }) ≡ b)
 unfolding front_step back_step
@@ -129,21 +126,21 @@ pub decode_sound : (b : List ℕ) (s : Sheet) → Bytes b → decode b ≡ sheet
 unfolding decode check_of
 decode_sound b s y e = go (leb (length b) 16777216) refl (front_step b) refl (back_step b (reach (front_step b))) refl e
   where
-    main : (f q : ℕ) → length b ≤ 16777216 → front_step b ≡ Next f → back_step b f ≡ Next q
+    main : (f q : ℕ) → length b ≤ 16777216 → front_step b ≡ Ok f → back_step b f ≡ Ok q
         → (WellFormed (record { instances = ins_at b (be32 b 4) 12; arcs = arcs_at b (be32 b 8) f }))
         × (encode (record { instances = ins_at b (be32 b 4) 12; arcs = arcs_at b (be32 b 8) f }) ≡ b)
     main f q h e1 e2 = mains b y f q h e1 e2
 
     go : (t : Bool) → leb (length b) 16777216 ≡ t → (x : Step) → front_step b ≡ x → (z : Step) → back_step b (reach x) ≡ z
-        → decode_of b (pick t (verdict x (verdict z (Good (be32 b 4) (be32 b 8) (reach x)))) (Bad 10 0)) ≡ sheet s → WellFormed s × (encode s ≡ b)
-    go true t (Next f) e1 (Next q) e2 e = rw (inj e) at (main f q (leb-true _ _ t) e1 e2)
-    go true t (Next f) e1 (Fault k p) e2 e = no_fault e
-    go true t (Fault k p) e1 z e2 e = no_fault e
+        → decode_of b (pick t (verdict x (verdict z (Good (be32 b 4) (be32 b 8) (reach x)))) (faulty 10 0)) ≡ sheet s → WellFormed s × (encode s ≡ b)
+    go true t (Ok f) e1 (Ok q) e2 e = rw (inj e) at (main f q (leb-true _ _ t) e1 e2)
+    go true t (Ok f) e1 (Err d) e2 e = no_fault e
+    go true t (Err d) e1 z e2 e = no_fault e
     go false t x e1 z e2 e = no_fault e
 
-finish : (s : Sheet) (b : List ℕ) (f r : ℕ) → length b ≤ 16777216 → head_step b ≡ Next 12 → be32 b 4 ≡ length s.instances
+finish : (s : Sheet) (b : List ℕ) (f r : ℕ) → length b ≤ 16777216 → head_step b ≡ Ok 12 → be32 b 4 ≡ length s.instances
     → be32 b 8 ≡ length s.arcs
-    → ins_step b (length s.instances) 0 12 ≡ Next f → arcs_step b (length s.arcs) 0 f ≡ Next r → r ≡ length b
+    → ins_step b (length s.instances) 0 12 ≡ Ok f → arcs_step b (length s.arcs) 0 f ≡ Ok r → r ≡ length b
     → ins_at b (length s.instances) 12 ≡ s.instances → arcs_at b (length s.arcs) f ≡ s.arcs → decode b ≡ sheet s
 unfolding decode check_of front_step back_step end_step
 finish s b f r h e0 c4 c8 e1 e2 z x y =

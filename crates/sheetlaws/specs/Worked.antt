@@ -1,6 +1,6 @@
 -- Sheets worked out, each by computation: one whole sheet from its bytes, and small ones that are good or not.
 -- Assumes nothing.
-use Rattle.std.specs.Prelude.{ℕ, zero, suc, ◌+◌, ◌-◌, ◌*◌, ◌≡◌, refl, Bool, true, false, List, [], ◌∷◌, ◌++◌, leb, eqb, ℤ, pos, negsuc, length, replicate}
+use Rattle.std.specs.Prelude.{ℕ, zero, suc, ◌+◌, ◌-◌, ◌*◌, ◌≡◌, refl, Bool, true, false, List, [], ◌∷◌, ◌++◌, leb, eqb, ℤ, pos, negsuc, length, replicate, Ok, Err}
 use Prim.Native.Char.{code}
 use Prim.Native.String.{String}
 use Rattle.std.specs.Int.{w64}
@@ -10,9 +10,7 @@ use Rattle.wire.specs.Wire.{be16, be32, be64, be_bytes, enc16, enc32}
 use Rattle.nameshape.specs.Shape.{is_name_byte, is_escapable, divider, body_next, bracket_next, name_next, name_run, may_end, is_path, is_port, escapes, may_follow, text_from, is_text}
 use Rattle.names.specs.Order.{cmp, cmp_num}
 use Rattle.kinds.specs.Kinds.{table, facts_of, is_kind, has_edge, has_second, has_edge2, is_signed, rows_of}
-use Rattle.sheetparts.specs.Form.{shape_ok, one_end, edge_top, edge_top2, second_least, second_most, used, value_ok, room_step, mark_step, kind_step, edge_step, len_step, name_step, value_step, values_step, first_len, second_len, Key, cmp_key, key_at, key_step, order_step, ar_rest, ar_fields, ar_step, arcs_step, path_len, type_len, path_step, in_order_step, in_fields, in_step, ins_step, format_step, head_step, end_step, front_step, back_step, check_of}
-use Rattle.sheetparts.specs.declared.SheetCheck.{SheetCheck}
-use Rattle.sheetparts.specs.declared.SheetCheck.TheVariants.{Good, Bad}
+use Rattle.sheetparts.specs.Form.{SheetCheck, shape_ok, one_end, edge_top, edge_top2, second_least, second_most, used, value_ok, room_step, mark_step, kind_step, edge_step, len_step, name_step, value_step, values_step, first_len, second_len, Key, cmp_key, key_at, key_step, order_step, ar_rest, ar_fields, ar_step, arcs_step, path_len, type_len, path_step, in_order_step, in_fields, in_step, ins_step, format_step, head_step, end_step, front_step, back_step, check_of}
 use Rattle.sheetlaws.specs.Sheet.{Sheet, values_of, arcs_at, ins_at, decode, sheet}
 use Rattle.sheetlaws.specs.Rule.{least}
 
@@ -79,8 +77,8 @@ worked = refl
 -- Small sheets: whether they are of the form.
 
 abbrev good : SheetCheck → Bool
-good (Good n m f) = true
-good (Bad k p) = false
+good (Ok o) = true
+good (Err d) = false
 
 -- a sheet of n instances and m arcs, whose bytes are t
 abbrev small : ℕ → ℕ → List ℕ → Bool

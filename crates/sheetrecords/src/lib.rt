@@ -1,4 +1,4 @@
-// The records of a timing sheet that was checked: the fields and the values of an instance or an arc at a place.
+// The records of a timing sheet that was checked: the fields and the values of an instance or an arc.
 #![tactic(auto)]
 
 ghost use Rattle.std.specs.Prelude.{◌≡◌, ◌+◌, ◌*◌, ◌-◌, ◌≤◌, ◌<◌, length};
@@ -9,94 +9,100 @@ ghost use Rattle.wire.specs.Wire.{be64, be_bytes};
 ghost use Rattle.sheetparts.specs.Form.{key_at, values_at, path_at, type_at};
 ghost use Rattle.sheetlaws.specs.Sheet.{ar_next, in_end, place};
 
-pub fn next_instance(sheet: &[u8], place: usize) -> usize
-    requires { in_end sheet.now place ≤ length sheet.now }
-    ensures { result ≡ in_end sheet.now place }
-{
-    let m = sheetparts::path_len(sheet, place);
-    let n = sheetparts::type_len(sheet, place);
-    place + 6 + m + n
+// An instance of a sheet, at its place: it is there whole.
+#[derive(Clone, Copy)]
+pub struct Instance<'a> {
+    pub sheet: &'a [u8],
+    pub place: usize,
+    pub ghost whole: { in_end sheet.now place ≤ length sheet.now },
 }
 
-pub fn instance_path(sheet: &[u8], place: usize) -> &[u8]
-    requires { in_end sheet.now place ≤ length sheet.now }
-    ensures { result.now ≡ path_at sheet.now place }
-{
-    let m = sheetparts::path_len(sheet, place);
-    let start = place + 4;
-    let end = start + m;
-    &sheet[start..end]
+impl<'a> Instance<'a> {
+    pub fn path(self) -> &'a [u8]
+        ensures { result.now ≡ path_at self.entry.sheet.now self.entry.place }
+    {
+        let start = self.place + 4;
+        let end = start + sheetparts::path_len(self.sheet, self.place);
+        &self.sheet[start..end]
+    }
+
+    pub fn type_name(self) -> &'a [u8]
+        ensures { result.now ≡ type_at self.entry.sheet.now self.entry.place }
+    {
+        let start = self.place + 6 + sheetparts::path_len(self.sheet, self.place);
+        let end = start + sheetparts::type_len(self.sheet, self.place);
+        &self.sheet[start..end]
+    }
+
+    // The place behind it.
+    pub fn next(self) -> usize
+        ensures { result ≡ in_end self.entry.sheet.now self.entry.place }
+    {
+        let m = sheetparts::path_len(self.sheet, self.place);
+        let n = sheetparts::type_len(self.sheet, self.place);
+        self.place + 6 + m + n
+    }
 }
 
-pub fn instance_type(sheet: &[u8], place: usize) -> &[u8]
-    requires { in_end sheet.now place ≤ length sheet.now }
-    ensures { result.now ≡ type_at sheet.now place }
-{
-    let m = sheetparts::path_len(sheet, place);
-    let n = sheetparts::type_len(sheet, place);
-    let start = place + 6 + m;
-    let end = start + n;
-    &sheet[start..end]
+// An arc of a sheet, at its place: it is there whole.
+#[derive(Clone, Copy)]
+pub struct Arc<'a> {
+    pub sheet: &'a [u8],
+    pub place: usize,
+    pub ghost whole: { ar_next sheet.now place ≤ length sheet.now },
 }
 
-pub fn arc_kind(sheet: &[u8], place: usize) -> u8
-    requires { ar_next sheet.now place ≤ length sheet.now }
-    ensures { result ≡ (key_at sheet.now place).kind }
-{
-    sheet[place + 2]
-}
+impl<'a> Arc<'a> {
+    pub fn kind(self) -> u8
+        ensures { result ≡ (key_at self.entry.sheet.now self.entry.place).kind }
+    {
+        self.sheet[self.place + 2]
+    }
 
-pub fn arc_edge(sheet: &[u8], place: usize) -> u8
-    requires { ar_next sheet.now place ≤ length sheet.now }
-    ensures { result ≡ (key_at sheet.now place).edge }
-{
-    sheet[place + 3]
-}
+    pub fn edge(self) -> u8
+        ensures { result ≡ (key_at self.entry.sheet.now self.entry.place).edge }
+    {
+        self.sheet[self.place + 3]
+    }
 
-pub fn arc_edge2(sheet: &[u8], place: usize) -> u8
-    requires { ar_next sheet.now place ≤ length sheet.now }
-    ensures { result ≡ (key_at sheet.now place).edge2 }
-{
-    let m = sheetparts::first_len(sheet, place);
-    sheet[place + 6 + m]
-}
+    pub fn edge2(self) -> u8
+        ensures { result ≡ (key_at self.entry.sheet.now self.entry.place).edge2 }
+    {
+        let m = sheetparts::first_len(self.sheet, self.place);
+        self.sheet[self.place + 6 + m]
+    }
 
-pub fn first_end(sheet: &[u8], place: usize) -> &[u8]
-    requires { ar_next sheet.now place ≤ length sheet.now }
-    ensures { result.now ≡ (key_at sheet.now place).first }
-{
-    let m = sheetparts::first_len(sheet, place);
-    let start = place + 6;
-    let end = start + m;
-    &sheet[start..end]
-}
+    pub fn first_end(self) -> &'a [u8]
+        ensures { result.now ≡ (key_at self.entry.sheet.now self.entry.place).first }
+    {
+        let start = self.place + 6;
+        let end = start + sheetparts::first_len(self.sheet, self.place);
+        &self.sheet[start..end]
+    }
 
-pub fn second_end(sheet: &[u8], place: usize) -> &[u8]
-    requires { ar_next sheet.now place ≤ length sheet.now }
-    ensures { result.now ≡ (key_at sheet.now place).second }
-{
-    let m = sheetparts::first_len(sheet, place);
-    let n = sheetparts::second_len(sheet, place);
-    let start = place + 9 + m;
-    let end = start + n;
-    &sheet[start..end]
-}
+    pub fn second_end(self) -> &'a [u8]
+        ensures { result.now ≡ (key_at self.entry.sheet.now self.entry.place).second }
+    {
+        let start = self.place + 9 + sheetparts::first_len(self.sheet, self.place);
+        let end = start + sheetparts::second_len(self.sheet, self.place);
+        &self.sheet[start..end]
+    }
 
-// Where its values start.
-pub fn values_place(sheet: &[u8], place: usize) -> usize
-    requires { ar_next sheet.now place ≤ length sheet.now }
-    ensures { result ≡ values_at sheet.now place }
-{
-    let m = sheetparts::first_len(sheet, place);
-    let n = sheetparts::second_len(sheet, place);
-    place + 9 + m + n
-}
+    // Where its values start.
+    pub fn values(self) -> usize
+        ensures { result ≡ values_at self.entry.sheet.now self.entry.place }
+    {
+        let m = sheetparts::first_len(self.sheet, self.place);
+        let n = sheetparts::second_len(self.sheet, self.place);
+        self.place + 9 + m + n
+    }
 
-pub fn next_arc(sheet: &[u8], place: usize) -> usize
-    requires { ar_next sheet.now place ≤ length sheet.now }
-    ensures { result ≡ ar_next sheet.now place }
-{
-    values_place(sheet, place) + 144
+    // The place behind it.
+    pub fn next(self) -> usize
+        ensures { result ≡ ar_next self.entry.sheet.now self.entry.place }
+    {
+        self.values() + 144
+    }
 }
 
 pub fn value_get(sheet: &[u8], values: usize, slot: usize) -> i64

@@ -14,8 +14,7 @@ use Rattle.wire.specs.Wire.{Bytes, be16, be64, part, enc16, enc32}
 use Rattle.names.specs.Name.{both}
 use Rattle.names.specs.Order.{same_text}
 use Rattle.names.specs.Laws.{text_exactly}
-use Rattle.sheetparts.specs.Form.{Key, first_len, second_len, values_at, key_at, check_of}
-use Rattle.sheetparts.specs.declared.SheetCheck.TheVariants.{Good}
+use Rattle.sheetparts.specs.Form.{Good, Key, first_len, second_len, values_at, key_at, check_of}
 use Rattle.sheetlaws.specs.Rule.{least}
 use Rattle.sheetlaws.specs.Sheet.{
   Instance,

@@ -9,8 +9,7 @@ use Rattle.std.proofs.Math.ListN.{get_elem?, length-map}
 use Rattle.wire.specs.Wire.{Bytes}
 use Rattle.names.specs.Order.{cmp}
 use Rattle.names.specs.Orders.{converse}
-use Rattle.sheetparts.specs.Form.{key_at, path_at, type_at, cmp_key, check_of}
-use Rattle.sheetparts.specs.declared.SheetCheck.TheVariants.{Good}
+use Rattle.sheetparts.specs.Form.{Good, key_at, path_at, type_at, cmp_key, check_of}
 use Rattle.sheetlaws.specs.Sheet.{Arc, nth, place, ar_next, arcs_at, in_at, in_end, ins_at}
 use Rattle.sheetlaws.specs.Whole.{length-arcs_at}
 use Rattle.sheet.specs.Search.{Rises, beyond, absent}

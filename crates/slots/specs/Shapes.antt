@@ -11,8 +11,7 @@ use Rattle.nameshape.specs.Shape.{Name, is_path}
 use Rattle.nameshape.specs.Exactly.{path_exactly, port_exactly}
 use Rattle.names.specs.Laws.{PathOrTop, top, below}
 use Rattle.kinds.specs.Kinds.{table, facts_of, is_kind, has_second}
-use Rattle.sheetparts.specs.Form.{shape_ok, one_end, second_least, value_ok, key_at, path_at, check_of}
-use Rattle.sheetparts.specs.declared.SheetCheck.TheVariants.{Good}
+use Rattle.sheetparts.specs.Form.{Good, shape_ok, one_end, second_least, value_ok, key_at, path_at, check_of}
 use Rattle.sheetlaws.specs.Rule.{least, MayStand, empty, upward, downward, value_rule}
 use Rattle.sheetlaws.specs.Sheet.{Arc, From, ArcOk, ArcsOk, FromPath, InOk, InsOk, Fit, values_ok, nth, place, ar_next, arc_at, arcs_at, in_at, in_end, ins_at}
 use Rattle.sheetlaws.specs.Sheet as sheet

@@ -11,8 +11,7 @@ use mir.ValLaws.{of_z_fits}
 use Rattle.classes.specs.Choice.{pick}
 use Rattle.wire.specs.Wire.{Bytes, be64, be_bytes}
 use Rattle.wire.specs.Frame.{number_back}
-use Rattle.sheetparts.specs.Form.{values_at, check_of}
-use Rattle.sheetparts.specs.declared.SheetCheck.TheVariants.{Good}
+use Rattle.sheetparts.specs.Form.{Good, values_at, check_of}
 use Rattle.sheetlaws.specs.Sheet.{enc_arcs, encode, none, WellFormed, place, ins_at, arcs_at}
 use Rattle.sheetlaws.specs.Values.{off, All18, all18, off-place}
 use Rattle.sheetlaws.specs.Whole.{length-arcs_at, decode_sound}

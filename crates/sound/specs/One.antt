@@ -1,17 +1,16 @@
 -- 'The incoming text is one cell': what a patch's text leaves is one cell, read with the file's divider and time scale to its end.
 -- Assumes nothing.
-use Rattle.std.specs.Prelude.{◌≡◌, refl, Bool, true, false, ℕ, ◌+◌, eqb, ltb, length}
+use Rattle.std.specs.Prelude.{◌≡◌, refl, Bool, true, false, ℕ, ◌+◌, eqb, ltb, length, ℤ, Result, Ok, Err}
 use Rattle.std.proofs.Common.{sym, ap, subst, ◌∙◌, true≢false, arith}
 use mathlib.Core.List.{List, [], ◌∷◌, nil≢cons}
 use Rattle.std.proofs.Math.Option.{none, some}
 use Rattle.classes.specs.Choice.{pick}
 use Rattle.tokens.specs.Stream.{Placed}
 use Rattle.numbershape.specs.Value.{number_of}
-use Rattle.numbershape.specs.declared.Number.{Number}
-use Rattle.numbershape.specs.declared.Number.TheVariants as number
+use Rattle.numbershape.specs.declared.NotTime.{NotTime}
 use Rattle.grammar.specs.declared.Cell.{Cell}
 use Rattle.grammar.specs.Ll.{lit, non, Took, Row, feed, feeds, none≢some}
-use Rattle.grammar.specs.Machine.{fine, bad, fine_inj, bad≢fine, judges}
+use Rattle.grammar.specs.Machine.{fine, bad, fine_inj, judges}
 use Rattle.grammar.specs.Grammar.{
   Cls,
   Act,
@@ -61,7 +60,7 @@ use Rattle.grammar.specs.Grammar.{
   one_cell_of,
 }
 use Rattle.grammar.specs.Grammar as G
-use Rattle.grammar.specs.Meaning.{Book, overlong, timed, judge, judge_by}
+use Rattle.grammar.specs.Meaning.{Book, overlong, refused≢fine, timed, judge, judge_by}
 use Rattle.grammar.specs.Reading.{At}
 use Rattle.grammar.specs.Outcome.{Stack, read_cell_of}
 use Rattle.laws.specs.Walk.{some_inj}
@@ -174,11 +173,9 @@ inner_keeps b c (entry k) t d g e =
     subst (Keeps b) (fine_inj i) (refl, refl)
 inner_keeps b c (time s k) t d g e = by (number_of s b.unit t.bytes) e
   where
-    by : (v : Number) → timed b c k t v ≡ fine d → Keeps b d
-    by (number.Time z) e = simply c t b _ d (refl, refl) e
-    by number.Fine e = absurd (bad≢fine e)
-    by number.Beyond e = absurd (bad≢fine e)
-    by number.Wrong e = absurd (bad≢fine e)
+    by : (v : Result ℤ NotTime) → timed b c k t v ≡ fine d → Keeps b d
+    by (Ok z) e = simply c t b _ d (refl, refl) e
+    by (Err y) e = absurd (refused≢fine b c k t y e)
 
 inner_word : (a : Act) → inner a ≡ true → opens_cell a ≡ false
 inner_word (note n) g = refl

@@ -1,22 +1,20 @@
 -- What a reading leaves is in range: times, kinds, edges, groups and sorts of paths are what a sheet or a slot can hold; the cells have all
 -- the entries; and the ends stand in the text.
 -- Assumes nothing.
-use Rattle.std.specs.Prelude.{◌≡◌, refl, Bool, true, false, List, [], ◌∷◌, ◌++◌, ℕ, zero, suc, ◌+◌, ◌-◌, ◌≤◌, ◌<◌, eqb, ℤ, nat_abs, length}
+use Rattle.std.specs.Prelude.{◌≡◌, refl, Bool, true, false, List, [], ◌∷◌, ◌++◌, ℕ, zero, suc, ◌+◌, ◌-◌, ◌≤◌, ◌<◌, eqb, ℤ, nat_abs, length, Result, Ok, Err, Some, None, Option}
 use Rattle.std.proofs.Common.{sym, subst, ◌∙◌, arith, zero-le, length-append, eqb-true, ltb-true}
 use Rattle.std.proofs.Math.Option.{none, some}
 use Rattle.classes.specs.Choice.{pick}
 use Rattle.tokenforms.specs.declared.Token.{Token}
-use Rattle.tokenforms.specs.declared.Token.TheVariants.{Got, Stop}
+use Rattle.tokenforms.specs.declared.Refusal.{Refusal}
+use Rattle.tokenforms.specs.Tokens.{Got, Refused}
 use Rattle.tokenforms.specs.Tokens.{token_at}
 use Rattle.tokens.specs.Stream.{Placed, onward, row, stream, onwards}
 use Rattle.words.specs.Words.{key_of, edge_of, keywords, edges}
 use Rattle.words.specs.Scales.{find_most}
 use Rattle.numbershape.specs.Value.{number_of}
 use Rattle.times.specs.Exact.{time_near}
-use Rattle.numbershape.specs.declared.Number.{Number}
-use Rattle.numbershape.specs.declared.Number.TheVariants as number
-use Rattle.grammar.specs.declared.Amount.{Amount}
-use Rattle.grammar.specs.declared.Amount.TheVariants.{Absent, Time}
+use Rattle.numbershape.specs.declared.NotTime.{NotTime}
 use Rattle.grammar.specs.declared.Value.{Value}
 use Rattle.grammar.specs.declared.Entry.{Entry}
 use Rattle.grammar.specs.declared.Cell.{Cell}
@@ -49,6 +47,7 @@ use Rattle.grammar.specs.Grammar.{
   time,
 }
 use Rattle.grammar.specs.Grammar as G
+use Rattle.grammar.specs.Meaning.{refused≢fine}
 use Rattle.grammar.specs.Meaning.{
   Item,
   Begun,
@@ -93,9 +92,9 @@ Each P [] = Unit {0}
 Each P (a ∷ l) = P a × Each P l
 
 -- 'each of the three numbers is supplied or absent', 'at most 10^15 either way'
-abbrev pub InTime : Amount → Type 0
-InTime Absent = Unit {0}
-InTime (Time z) = nat_abs z ≤ 1000000000000000
+abbrev pub InTime : Option ℤ → Type 0
+InTime None = Unit {0}
+InTime (Some z) = nat_abs z ≤ 1000000000000000
 
 abbrev pub SoundValue : Value → Type 0
 SoundValue v = InTime v.min × InTime v.typ × InTime v.max
@@ -433,13 +432,11 @@ one-step n b c (entry k) t d q p m g (x, y) e h =
     (started-holds n _ k t.start b.log (key_byte t.bytes) (ltb-true k 256 g) (omega arith)))
 one-step n b c (time w k) t d q p m g s e h = by (number_of w b.unit t.bytes) refl e
   where
-    by : (v : Number) → number_of w b.unit t.bytes ≡ v → timed b c k t v ≡ fine d → Holds n p d.log
-    by (number.Time z) f e =
+    by : (v : Result ℤ NotTime) → number_of w b.unit t.bytes ≡ v → timed b c k t v ≡ fine d → Holds n p d.log
+    by (Ok z) f e =
         simply n p c t _ d
         (stays n q p _ m (with_value n q b.log h _ (timely_sound k z b.log.value (time_near w b.unit t.bytes z f) h.value))) e
-    by number.Fine f e = absurd (bad≢fine e)
-    by number.Beyond f e = absurd (bad≢fine e)
-    by number.Wrong f e = absurd (bad≢fine e)
+    by (Err y) f e = absurd (refused≢fine b c k t y e)
 
 -- ALL TOKENS that passed
 all_steps : (n : ℕ) (xs : List Taken) (ss l : Stack) (b d : Book) (q p : ℕ) → all_grouped ss ≡ true → Fed ss xs l →
@@ -475,10 +472,10 @@ unfolding row
 row_stands zero s p h = tt
 row_stands (suc f) s p h = by (token_at s p) refl (row_stands f s)
   where
-    by : (t : Token) → token_at s p ≡ t → ((q : ℕ) → q ≤ length s → Each (Stands (length s)) (row f s q).toks) →
+    by : (t : Result Token Refusal) → token_at s p ≡ t → ((q : ℕ) → q ≤ length s → Each (Stands (length s)) (row f s q).toks) →
         Each (Stands (length s)) (onward s t (row f s)).toks
-    by (Got k b e l) g ih = let (x, y, z) = onwards s p k b e l h g in ((omega arith, z), ih e z)
-    by (Stop n q) g ih = tt
+    by (Ok tok) g ih = let (x, y, z) = onwards s p tok.kind tok.start tok.end tok.long h g in ((omega arith, z), ih tok.end z)
+    by (Err why) g ih = tt
 
 -- WHAT HOLDS of every text that is read
 read_holds : (a : As) → Whole a.start → (s : List ℕ) (st : At) → read_as_of a s ≡ fine st → Holds (length s) 0 st.book.log

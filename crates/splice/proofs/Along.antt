@@ -1,6 +1,6 @@
 -- The tokens of a text from one place to another: they do not see what stands behind a bracket, nor where they stand.
 -- Assumes nothing.
-use Rattle.std.specs.Prelude.{ℕ, ◌+◌, ◌-◌, ◌≤◌, ◌<◌, ◌≡◌, refl, Bool, false, ◌⊎◌, leb, drop, get_or}
+use Rattle.std.specs.Prelude.{ℕ, ◌+◌, ◌-◌, ◌≤◌, ◌<◌, ◌≡◌, refl, Bool, false, ◌⊎◌, leb, drop, get_or, Result, Ok, Err}
 use Rattle.std.proofs.Common.{eq-or-lt_of_le, le_refl, arith, ◌∙◌, subst, inl, inr, ⊎_elim, length-append, length-drop, leb-false, eqb-true}
 use Rattle.std.proofs.Math.Path.{ap, sym}
 use Rattle.std.proofs.Math.Bool.{true}
@@ -14,7 +14,8 @@ use Rattle.classes.specs.Choice.{pick}
 use Rattle.classes.specs.Classes.{class_of}
 use Rattle.scanning.specs.declared.Blank.{Blank}
 use Rattle.tokenforms.specs.declared.Token.{Token}
-use Rattle.tokenforms.specs.declared.Token.TheVariants.{Got, Stop}
+use Rattle.tokenforms.specs.declared.Refusal.{Refusal}
+use Rattle.tokenforms.specs.Tokens.{Got, Refused}
 use Rattle.scanning.specs.Scan.{local_at, stops, stops_st}
 use Rattle.scanning.specs.Machines.{word_stop, word_halts, word_goes, text_halts, close_halts, text_goes, blank_stop, blank_halts, blank_goes, outside}
 use Rattle.tokenforms.specs.Tokens.{string_of, token_of, token_here, behind, token_at, block_end}
@@ -29,10 +30,14 @@ Goes s p [] q = p ≡ q
 Goes s p (t ∷ ts) q =
     (token_at s p ≡ Got t.kind t.start t.end t.long) × (t.bytes ≡ part t.start t.end s) × Goes s t.end ts q
 
-got_inj : {k k' b b' e e' : ℕ} {l l' : Bool} → Got k b e l ≡ Got k' b' e' l' → (k ≡ k') × (b ≡ b') × (e ≡ e') × (l ≡ l')
-got_inj h = (cc, cc, cc, cc)
+abbrev of_token : {A : Type 0} → (Token → A) → A → Result Token Refusal → A
+of_token f z (Ok tok) = f tok
+of_token f z (Err why) = z
 
-stop≢got : {n q k b e : ℕ} {l : Bool} → Stop n q ≡ Got k b e l → ⊥
+got_inj : {k k' b b' e e' : ℕ} {l l' : Bool} → Got k b e l ≡ Got k' b' e' l' → (k ≡ k') × (b ≡ b') × (e ≡ e') × (l ≡ l')
+got_inj h = (ap (of_token (λ t. t.kind) 0) h, ap (of_token (λ t. t.start) 0) h, ap (of_token (λ t. t.end) 0) h, ap (of_token (λ t. t.long) false) h)
+
+stop≢got : {n q k b e : ℕ} {l : Bool} → Refused n q ≡ Got k b e l → ⊥
 stop≢got h = let z : ◌≡◌ {A = ℕ} 0 1 = cc in omega arith
 
 -- the tokens of a text, cut anywhere
@@ -43,14 +48,14 @@ pub stream-goes : (s : List ℕ) (ts us : List Placed) (p : ℕ) → p ≤ lengt
 stream-goes s [] us p h e = (p, refl, h, e, refl)
 stream-goes s (t ∷ ts) us p h e = by (token_at s p) refl (stream_turn s p h) (stream-goes s ts us)
   where
-    by : (x : Token) → token_at s p ≡ x → stream s p ≡ onward s x (stream s) →
+    by : (x : Result Token Refusal) → token_at s p ≡ x → stream s p ≡ onward s x (stream s) →
         ((f : ℕ) → f ≤ length s → (stream s f).toks ≡ ts ++ us → Cut s ts us f) → Cut s (t ∷ ts) us p
-    by (Got k b f l) i j ih =
-        let z : placed s k b f l ∷ (stream s f).toks ≡ t ∷ (ts ++ us) = sym (ap (λ (r : Stream). r.toks) j) ∙ e in
-        let y : placed s k b f l ≡ t = head-eq_of_cons-eq z in
-        let (q, g, m, n, o) = ih f (onwards s p k b f l h i).2 (tail-eq_of_cons-eq z) in
+    by (Ok tok) i j ih =
+        let z : placed s tok.kind tok.start tok.end tok.long ∷ (stream s tok.end).toks ≡ t ∷ (ts ++ us) = sym (ap (λ (r : Stream). r.toks) j) ∙ e in
+        let y : placed s tok.kind tok.start tok.end tok.long ≡ t = head-eq_of_cons-eq z in
+        let (q, g, m, n, o) = ih tok.end (onwards s p tok.kind tok.start tok.end tok.long h i).2 (tail-eq_of_cons-eq z) in
         (q, subst (λ (x : Placed). Goes s p (x ∷ ts) q) y (i, refl, g), m, n, o ∙ sym (ap (λ (r : Stream). r.number) j))
-    by (Stop n r) i j ih = absurd (nil≢cons (sym (ap (λ (r : Stream). r.toks) j) ∙ e))
+    by (Err why) i j ih = absurd (nil≢cons (sym (ap (λ (r : Stream). r.toks) j) ∙ e))
 
 -- and put together again
 pub goes-stream : (s : List ℕ) (ts : List Placed) (p q : ℕ) → p ≤ length s → Goes s p ts q →
@@ -78,7 +83,7 @@ goes-split s [] us p r g = (p, refl, g)
 goes-split s (t ∷ ts) us p r (i, j, f) = let (q, g, h) = goes-split s ts us t.end r f in (q, (i, j, g), h)
 
 -- WHAT A TOKEN IS, by the byte where it starts
-pick_is : {P : Type 0} (v : Bool) (x y z : Token) → (v ≡ true → x ≡ z → P) → (v ≡ false → y ≡ z → P) → pick v x y ≡ z → P
+pick_is : {P : Type 0} (v : Bool) (x y z : Result Token Refusal) → (v ≡ true → x ≡ z → P) → (v ≡ false → y ≡ z → P) → pick v x y ≡ z → P
 pick_is true x y z f g e = f refl e
 pick_is false x y z f g e = g refl e
 
@@ -130,7 +135,7 @@ token_starts s p k b e l h =
     }
 
 -- an illegal byte behind a token is no token
-illegal_here : (s : List ℕ) (p : ℕ) → p < length s → class_of (get_or s p 0) ≡ 0 → token_at s p ≡ Stop 2 p
+illegal_here : (s : List ℕ) (p : ℕ) → p < length s → class_of (get_or s p 0) ≡ 0 → token_at s p ≡ Refused 2 p
 unfolding token_at behind token_of blank_stop
 illegal_here s p h e =
     let z : blank_halts outside (get_or s p 0) (get_or s (p + 1) 0) ≡ true = rw e in
@@ -233,7 +238,7 @@ part-behind c w b e =
 turn_at : (c w : List ℕ) (i : ℕ) → i ≤ length w →
     stream (c ++ w) (length c + i) ≡ onward (c ++ w) (moved (length c) (token_at w i)) (stream (c ++ w))
 turn_at c w i h =
-    stream_turn (c ++ w) (length c + i) (omega (arith, length-append c w)) ∙ ap (λ (x : Token). onward (c ++ w) x (stream (c ++ w))) (token_shift c w i)
+    stream_turn (c ++ w) (length c + i) (omega (arith, length-append c w)) ∙ ap (λ (x : Result Token Refusal). onward (c ++ w) x (stream (c ++ w))) (token_shift c w i)
 
 module _ (a c w : List ℕ) where
   abbrev mv : Placed → Placed
@@ -248,16 +253,16 @@ module _ (a c w : List ℕ) where
   goes-move [] i q g = omega arith
   goes-move (t ∷ ts) i q (u, v, g) = by (token_at w i) (token_shift a w i) (token_shift c w i) (goes-move ts)
     where
-      by : (x : Token) → token_at (a ++ w) (length a + i) ≡ moved (length a) x → token_at (c ++ w) (length c + i) ≡ moved (length c) x →
+      by : (x : Result Token Refusal) → token_at (a ++ w) (length a + i) ≡ moved (length a) x → token_at (c ++ w) (length c + i) ≡ moved (length c) x →
           ((j q : ℕ) → Goes (a ++ w) (length a + j) ts q → Goes (c ++ w) (length c + j) (map mv ts) (length c + (q - length a))) →
           Goes (c ++ w) (length c + i) (map mv (t ∷ ts)) (length c + (q - length a))
-      by (Got k b e l) f h ih =
-          let (x, y, z, o) = got_inj (sym u ∙ (f ∙ moved_got (length a) k b e l)) in
-          let y' : t.start - length a ≡ b = omega arith in
-          let z' : t.end - length a ≡ e = omega arith in
-          let r = ih e q (subst (λ (n : ℕ). Goes (a ++ w) n ts q) z g) in
-          rw (x, o, y', z') (h ∙ moved_got (length c) k b e l, v ∙ moved-part t.start t.end b e y z, r)
-      by (Stop n r) f h ih = absurd (stop≢got (sym (moved-stop (length a) n r) ∙ (sym f ∙ u)))
+      by (Ok tok) f h ih =
+          let (x, y, z, o) = got_inj (sym u ∙ (f ∙ moved_got (length a) tok.kind tok.start tok.end tok.long)) in
+          let y' : t.start - length a ≡ tok.start = omega arith in
+          let z' : t.end - length a ≡ tok.end = omega arith in
+          let r = ih tok.end q (subst (λ (n : ℕ). Goes (a ++ w) n ts q) z g) in
+          rw (x, o, y', z') (h ∙ moved_got (length c) tok.kind tok.start tok.end tok.long, v ∙ moved-part t.start t.end tok.start tok.end y z, r)
+      by (Err why) f h ih = absurd (stop≢got (sym (moved-stop (length a) why.number why.place) ∙ (sym f ∙ u)))
 
   same_tok : (k b f : ℕ) (l : Bool) → placed (c ++ w) k (length c + b) (length c + f) l ≡ mv (placed (a ++ w) k (length a + b) (length a + f) l)
   same_tok k b f l =
@@ -272,28 +277,28 @@ module _ (a c w : List ℕ) where
   pub stream-move : (ts : List Placed) (i : ℕ) → i ≤ length w → (stream (a ++ w) (length a + i)).toks ≡ ts → Same ts i
   stream-move [] i h e = by (token_at w i) (turn_at a w i h) (turn_at c w i h)
     where
-      by : (x : Token) → stream (a ++ w) (length a + i) ≡ onward (a ++ w) (moved (length a) x) (stream (a ++ w)) →
+      by : (x : Result Token Refusal) → stream (a ++ w) (length a + i) ≡ onward (a ++ w) (moved (length a) x) (stream (a ++ w)) →
           stream (c ++ w) (length c + i) ≡ onward (c ++ w) (moved (length c) x) (stream (c ++ w)) → Same [] i
-      by (Got k b f l) u v =
-          absurd (nil≢cons (sym e ∙ (ap (λ (r : Stream). r.toks) u ∙ ap (λ (x : Token). (onward (a ++ w) x (stream (a ++ w))).toks) (moved_got (length a) k b f l))))
-      by (Stop n q) u v =
-          let u' = rw moved-stop at u in
-          let v' = rw moved-stop at v in
+      by (Ok tok) u v =
+          absurd (nil≢cons (sym e ∙ (ap (λ (r : Stream). r.toks) u ∙ ap (λ (x : Result Token Refusal). (onward (a ++ w) x (stream (a ++ w))).toks) (moved_got (length a) tok.kind tok.start tok.end tok.long))))
+      by (Err why) u v =
+          let u' = rw (moved-stop (length a) why.number why.place) at u in
+          let v' = rw (moved-stop (length c) why.number why.place) at v in
           (ap (λ (r : Stream). r.toks) v', ap (λ (r : Stream). r.number) v' ∙ sym (ap (λ (r : Stream). r.number) u'))
   stream-move (t ∷ ts) i h e = by (token_at w i) refl (turn_at a w i h) (turn_at c w i h) (stream-move ts)
     where
-      by : (x : Token) → token_at w i ≡ x → stream (a ++ w) (length a + i) ≡ onward (a ++ w) (moved (length a) x) (stream (a ++ w)) →
+      by : (x : Result Token Refusal) → token_at w i ≡ x → stream (a ++ w) (length a + i) ≡ onward (a ++ w) (moved (length a) x) (stream (a ++ w)) →
           stream (c ++ w) (length c + i) ≡ onward (c ++ w) (moved (length c) x) (stream (c ++ w)) →
           ((j : ℕ) → j ≤ length w → (stream (a ++ w) (length a + j)).toks ≡ ts → Same ts j) → Same (t ∷ ts) i
-      by (Got k b f l) g u v ih =
-          let u' = rw moved_got at u in
-          let v' = rw moved_got at v in
-          let z : placed (a ++ w) k (length a + b) (length a + f) l ∷ (stream (a ++ w) (length a + f)).toks ≡ t ∷ ts =
+      by (Ok tok) g u v ih =
+          let u' = rw (moved_got (length a) tok.kind tok.start tok.end tok.long) at u in
+          let v' = rw (moved_got (length c) tok.kind tok.start tok.end tok.long) at v in
+          let z : placed (a ++ w) tok.kind (length a + tok.start) (length a + tok.end) tok.long ∷ (stream (a ++ w) (length a + tok.end)).toks ≡ t ∷ ts =
           sym (ap (λ (r : Stream). r.toks) u') ∙ e in
-          let (m, n) = ih f (onwards w i k b f l h g).2 (tail-eq_of_cons-eq z) in (
-            ap (λ (r : Stream). r.toks) v' ∙ (ap (λ (r : List Placed). placed (c ++ w) k (length c + b) (length c + f) l ∷ r) m
-                ∙ ap (λ (x : Placed). x ∷ map mv ts) (same_tok k b f l ∙ ap mv (head-eq_of_cons-eq z))),
+          let (m, n) = ih tok.end (onwards w i tok.kind tok.start tok.end tok.long h g).2 (tail-eq_of_cons-eq z) in (
+            ap (λ (r : Stream). r.toks) v' ∙ (ap (λ (r : List Placed). placed (c ++ w) tok.kind (length c + tok.start) (length c + tok.end) tok.long ∷ r) m
+                ∙ ap (λ (x : Placed). x ∷ map mv ts) (same_tok tok.kind tok.start tok.end tok.long ∙ ap mv (head-eq_of_cons-eq z))),
             ap (λ (r : Stream). r.number) v' ∙ (n ∙ sym (ap (λ (r : Stream). r.number) u')),
           )
-      by (Stop n q) g u v ih =
-          absurd (nil≢cons (ap (λ (x : Token). (onward (a ++ w) x (stream (a ++ w))).toks) (sym (moved-stop (length a) n q)) ∙ (sym (ap (λ (r : Stream). r.toks) u) ∙ e)))
+      by (Err why) g u v ih =
+          absurd (nil≢cons (ap (λ (x : Result Token Refusal). (onward (a ++ w) x (stream (a ++ w))).toks) (sym (moved-stop (length a) why.number why.place)) ∙ (sym (ap (λ (r : Stream). r.toks) u) ∙ e)))

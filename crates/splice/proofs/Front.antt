@@ -1,18 +1,17 @@
 -- What stands before a cell: with other room it is read alike; and where a cell may begin, nothing is in hand.
 -- Assumes nothing.
-use Rattle.std.specs.Prelude.{◌≡◌, refl, Bool, true, false, List, [], ◌∷◌, ℕ, zero, suc, ◌+◌, ◌-◌, ◌≤◌, eqb, ltb, length}
+use Rattle.std.specs.Prelude.{◌≡◌, refl, Bool, true, false, List, [], ◌∷◌, ℕ, zero, suc, ◌+◌, ◌-◌, ◌≤◌, eqb, ltb, length, ℤ, Result, Ok, Err}
 use Rattle.std.proofs.Common.{sym, ap, subst, ◌∙◌, arith, eqb-true, ne_eqb}
 use Rattle.std.proofs.Math.Option.{Option, none, some}
 use Rattle.classes.specs.Choice.{pick}
 use Rattle.tokens.specs.Stream.{Placed}
 use Rattle.numbershape.specs.Value.{number_of}
-use Rattle.numbershape.specs.declared.Number.{Number}
-use Rattle.numbershape.specs.declared.Number.TheVariants as number
+use Rattle.numbershape.specs.declared.NotTime.{NotTime}
 use Rattle.grammar.specs.Ll.{non}
-use Rattle.grammar.specs.Machine.{Res, fine, bad, ◌then◌, fine_inj, bad≢fine, judges}
+use Rattle.grammar.specs.Machine.{Res, fine, bad, ◌then◌, fine_inj, judges}
 use Rattle.grammar.specs.Grammar.{Cls, Note, skip, heading, type, top, named, any, finish, edged, end, plain, empty, all, whole, close, Act, note, divide, scaled, unity, joined, cell, entry, time, Term, N, header, timescale, bare, bare1, bare2, bare3, value, first, second, third, more, instance, specs, spec, deltype, deltypes, checks, delays, delay, device, check, end?, values, ◌⇒◌, ◌∣◌, opens, closes, heads, alts, fits, file}
 use Rattle.grammar.specs.Grammar as G
-use Rattle.grammar.specs.Meaning.{Log, Book, nothing, no_head, no_cell, tidy, noted, overlong, timed, judge, judge_by}
+use Rattle.grammar.specs.Meaning.{Log, Book, nothing, no_head, no_cell, tidy, noted, overlong, refused≢fine, timed, judge, judge_by}
 use Rattle.grammar.specs.Outcome.{no_log}
 use Rattle.laws.specs.Walk.{walk, through, agrees, agrees-drop, along_inv, kept_if, kept, some_inj}
 use Rattle.laws.specs.Phases.{every, from, to}
@@ -56,11 +55,9 @@ room-step cr ir b c (entry g) t d p q e =
     rw (v, room, none) (ap (λ (x : Book). fine (roomed cr (ir - 1) x)) (fine_inj i))
 room-step cr ir b c (time s k) t d p q e = by (number_of s b.unit t.bytes) e
   where
-    by : (v : Number) → timed b c k t v ≡ fine d → timed (roomed cr ir b) c k t v ≡ fine (roomed (cr - 0) (ir - 0) d)
-    by (number.Time z) e = room_simply (overlong c t) 8 t.start cr ir _ d e
-    by number.Fine e = absurd (bad≢fine e)
-    by number.Beyond e = absurd (bad≢fine e)
-    by number.Wrong e = absurd (bad≢fine e)
+    by : (v : Result ℤ NotTime) → timed b c k t v ≡ fine d → timed (roomed cr ir b) c k t v ≡ fine (roomed (cr - 0) (ir - 0) d)
+    by (Ok z) e = room_simply (overlong c t) 8 t.start cr ir _ d e
+    by (Err y) e = absurd (refused≢fine b c k t y e)
 
 pick-size : (v : Bool) (t : Placed) → pick v 1 0 ≡ length (pick v (t ∷ []) [])
 pick-size true t = refl
@@ -208,11 +205,9 @@ act_idle b c (entry g) t d q p m e h =
     idle_simply (eqb b.item_room 0) 9 t.start p _ d (turned q 1 p 2 b.log _ m h (λ f. tt)) (pick_fine (overlong c t) 8 t.start _ d e).1
 act_idle b c (time s k) t d q p m e h = by (number_of s b.unit t.bytes) e
   where
-    by : (v : Number) → timed b c k t v ≡ fine d → Idle p d.log
-    by (number.Time z) e = idle_simply (overlong c t) 8 t.start p _ d (turned q 2 p 2 b.log _ m h (λ f. tt)) e
-    by number.Fine e = absurd (bad≢fine e)
-    by number.Beyond e = absurd (bad≢fine e)
-    by number.Wrong e = absurd (bad≢fine e)
+    by : (v : Result ℤ NotTime) → timed b c k t v ≡ fine d → Idle p d.log
+    by (Ok z) e = idle_simply (overlong c t) 8 t.start p _ d (turned q 2 p 2 b.log _ m h (λ f. tt)) e
+    by (Err y) e = absurd (refused≢fine b c k t y e)
 
 all_idle : (xs : List Taken) (b d : Book) (q p : ℕ) → through out_moves every from to q (terms xs) ≡ some p → tells b xs ≡ fine d → Idle q b.log →
     Idle p d.log

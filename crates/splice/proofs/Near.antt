@@ -1,6 +1,6 @@
 -- WHERE WHAT WAS READ STANDS: what tokens add to a reading stands where they do; and the bytes there are the same in the new file.
 -- Assumes nothing.
-use Rattle.std.specs.Prelude.{◌≡◌, refl, Bool, true, false, ◌⊎◌, ℕ, ◌+◌, ◌-◌, ◌*◌, ◌≤◌, ◌<◌, eqb, leb, ltb, length, get_or, set, replicate}
+use Rattle.std.specs.Prelude.{◌≡◌, refl, Bool, true, false, ◌⊎◌, ℕ, ◌+◌, ◌-◌, ◌*◌, ◌≤◌, ◌<◌, eqb, leb, ltb, length, get_or, set, replicate, ℤ, Result, Ok, Err}
 use Rattle.std.proofs.Common.{sym, ap, ◌∙◌, inl, inr, zero-add, arith, length-append, length-set, get_or-set_same, get_or-set_other, leb-true, leb-false, le-leb, eqb-true, ltb-true, ltb-false}
 use Rattle.std.proofs.Math.Path.{subst}
 use mathlib.Core.List.{List, [], ◌∷◌, ◌++◌, append_assoc}
@@ -12,14 +12,13 @@ use Rattle.classes.specs.Choice.{pick}
 use Rattle.tokens.specs.Stream.{Placed, part}
 use Rattle.names.specs.Name.{part_of}
 use Rattle.numbershape.specs.Value.{number_of}
-use Rattle.numbershape.specs.declared.Number.{Number}
-use Rattle.numbershape.specs.declared.Number.TheVariants as number
+use Rattle.numbershape.specs.declared.NotTime.{NotTime}
 use Rattle.grammar.specs.declared.Entry.{Entry}
 use Rattle.grammar.specs.declared.Cell.{Cell}
-use Rattle.grammar.specs.Machine.{fine, bad, fine_inj, bad≢fine, judges}
+use Rattle.grammar.specs.Machine.{fine, bad, fine_inj, judges}
 use Rattle.grammar.specs.Grammar.{Cls, Note, skip, heading, type, top, named, any, finish, edged, end, plain, empty, all, whole, close, Act, note, divide, scaled, unity, joined, cell, entry, time}
 use Rattle.grammar.specs.Grammar as G
-use Rattle.grammar.specs.Meaning.{Item, Begun, Log, Book, head_of, headed, celled, cell_of, finished, entered, item_of, edge_put, end_put, noted, overlong, timed, judge, judge_by}
+use Rattle.grammar.specs.Meaning.{Item, Begun, Log, Book, head_of, headed, celled, cell_of, finished, entered, item_of, edge_put, end_put, noted, overlong, refused≢fine, timed, judge, judge_by}
 use Rattle.laws.specs.Taken.{Taken, tells}
 use Rattle.laws.proofs.Judged.{pick_fine}
 use Rattle.laws.proofs.Behind.{then_fine}
@@ -148,11 +147,9 @@ module _ (lo hi : ℕ) (cs : List Cell) (is : List Item) where
       (pick_fine (overlong c t) 8 t.start _ d e).1
   act_near b c (time w k) t d p q r s e h = by (number_of w b.unit t.bytes) e
     where
-      by : (v : Number) → timed b c k t v ≡ fine d → NearLog lo hi cs is d.log
-      by (number.Time z) e = near_simply (overlong c t) 8 t.start _ d (near_as b.log h _ refl refl refl refl) e
-      by number.Fine e = absurd (bad≢fine e)
-      by number.Beyond e = absurd (bad≢fine e)
-      by number.Wrong e = absurd (bad≢fine e)
+      by : (v : Result ℤ NotTime) → timed b c k t v ≡ fine d → NearLog lo hi cs is d.log
+      by (Ok z) e = near_simply (overlong c t) 8 t.start _ d (near_as b.log h _ refl refl refl refl) e
+      by (Err y) e = absurd (refused≢fine b c k t y e)
 
   -- ALL TOKENS
   pub all_near : (xs : List Taken) (b d : Book) → Each (Within lo hi) xs → tells b xs ≡ fine d → NearLog lo hi cs is b.log → NearLog lo hi cs is d.log
@@ -299,11 +296,9 @@ act_texts hi b c cell t d q r s e h = texts_simply hi (eqb b.cell_room 0) 9 t.st
 act_texts hi b c (entry g) t d q r s e h = texts_simply hi (eqb b.item_room 0) 9 t.start _ d h (pick_fine (overlong c t) 8 t.start _ d e).1
 act_texts hi b c (time w k) t d q r s e h = by (number_of w b.unit t.bytes) e
   where
-    by : (v : Number) → timed b c k t v ≡ fine d → NearTexts hi d.log.texts
-    by (number.Time z) e = texts_simply hi (overlong c t) 8 t.start _ d h e
-    by number.Fine e = absurd (bad≢fine e)
-    by number.Beyond e = absurd (bad≢fine e)
-    by number.Wrong e = absurd (bad≢fine e)
+    by : (v : Result ℤ NotTime) → timed b c k t v ≡ fine d → NearTexts hi d.log.texts
+    by (Ok z) e = texts_simply hi (overlong c t) 8 t.start _ d h e
+    by (Err y) e = absurd (refused≢fine b c k t y e)
 
 pub all_texts : (hi : ℕ) (xs : List Taken) (b d : Book) → Each (Within 0 hi) xs → tells b xs ≡ fine d → NearTexts hi b.log.texts → NearTexts hi d.log.texts
 unfolding judges

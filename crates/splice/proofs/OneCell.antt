@@ -1,6 +1,6 @@
 -- ONE CELL, wherever it stands: its tokens add one cell with its entries to what was read, and only their places tell where they stand.
 -- Assumes nothing.
-use Rattle.std.specs.Prelude.{◌≡◌, Bool, ℕ, zero, suc, ◌+◌, ◌-◌, ◌≤◌, ◌<◌, eqb}
+use Rattle.std.specs.Prelude.{◌≡◌, Bool, ℕ, zero, suc, ◌+◌, ◌-◌, ◌≤◌, ◌<◌, eqb, ℤ, Result, Ok, Err}
 use Rattle.std.proofs.Math.Path.{refl, sym, subst}
 use Rattle.std.proofs.Common.{ap, ◌∙◌, length-append, eqb-true, ne_eqb}
 use Rattle.std.proofs.Math.Bool.{true, false}
@@ -13,16 +13,15 @@ use Rattle.classes.specs.Choice.{pick}
 use Rattle.tokens.specs.Stream.{Placed}
 use Rattle.words.specs.Words.{key_of}
 use Rattle.numbershape.specs.Value.{number_of}
-use Rattle.numbershape.specs.declared.Number.{Number}
-use Rattle.numbershape.specs.declared.Number.TheVariants as number
+use Rattle.numbershape.specs.declared.NotTime.{NotTime}
 use Rattle.grammar.specs.declared.Value.{Value}
 use Rattle.grammar.specs.declared.Entry.{Entry}
 use Rattle.grammar.specs.declared.Cell.{Cell}
 use Rattle.grammar.specs.Ll.{none≢some}
-use Rattle.grammar.specs.Machine.{Res, fine, bad, ◌then◌, fine_inj, bad≢fine, judges}
+use Rattle.grammar.specs.Machine.{Res, fine, bad, ◌then◌, fine_inj, judges}
 use Rattle.grammar.specs.Grammar.{Cls, this, text, word, path, port, Note, skip, heading, type, top, named, any, finish, edged, end, plain, empty, all, whole, close, Act, note, divide, scaled, unity, joined, cell, entry, time, Term, cell_tail, opens, key, ◌‼◌}
 use Rattle.grammar.specs.Grammar as G
-use Rattle.grammar.specs.Meaning.{Item, Begun, Log, Book, nothing, no_head, tidy, valued, pushed, headed, started, item_of, entered, celled, cell_of, finished, edge_put, end_put, edge_of_end, noted, timely, overlong, timed, begins, told, judge, judge_by}
+use Rattle.grammar.specs.Meaning.{Item, Begun, Log, Book, nothing, no_head, tidy, valued, pushed, headed, started, item_of, entered, celled, cell_of, finished, edge_put, end_put, edge_of_end, noted, timely, overlong, refused≢fine, timed, begins, told, judge, judge_by}
 use Rattle.laws.specs.Walk.{through, along_inv, kept_if, some_inj}
 use Rattle.laws.specs.Taken.{Taken, terms, toks, tells, opens_entry, those, entry_words}
 use Rattle.laws.specs.Phases.{from, to}
@@ -317,13 +316,11 @@ module _ (a c : ℕ) (ts ts' : List ℕ) (cs cs' : List Cell) (is is' : List Ite
     one-step b b' d k (time s n) q p m u r h e =
         subst (λ (y : ℕ). Step b b' d p (timed b' k n (move_tok a c t) (number_of s y t.bytes))) (sym u) (by (number_of s b.unit t.bytes) e)
       where
-        by : (v : Number) → timed b k n t v ≡ fine d → Step b b' d p (timed b' k n (move_tok a c t) v)
-        by (number.Time z) e =
+        by : (v : Result ℤ NotTime) → timed b k n t v ≡ fine d → Step b b' d p (timed b' k n (move_tok a c t) v)
+        by (Ok z) e =
             simply b b' _ _ d k p
             (turned q 2 p 2 b.log b'.log _ _ m h (λ j. with_value b.log b'.log j _ _ (ap (timely n z) j.value))) refl refl refl refl e
-        by number.Fine e = absurd (bad≢fine e)
-        by number.Beyond e = absurd (bad≢fine e)
-        by number.Wrong e = absurd (bad≢fine e)
+        by (Err y) e = absurd (refused≢fine b k n t y e)
 
   -- ALL TOKENS of the cell behind its keyword
   record Steps (b b' d : Book) (p : ℕ) (xs : List Taken) : Type 0 where

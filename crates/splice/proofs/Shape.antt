@@ -1,19 +1,18 @@
 -- What a file's reading waits for: a header's keyword, what stands before its opening bracket, a divider, or what a cell still has and then
 -- more cells. So a cell's keyword stands behind an opening bracket, and is read with the divider in force.
 -- Assumes nothing.
-use Rattle.std.specs.Prelude.{◌≡◌, refl, Bool, true, false, List, [], ◌∷◌, ◌++◌, ℕ, zero, suc, ◌+◌, eqb, ltb, drop}
+use Rattle.std.specs.Prelude.{◌≡◌, refl, Bool, true, false, List, [], ◌∷◌, ◌++◌, ℕ, zero, suc, ◌+◌, eqb, ltb, drop, ℤ, Result, Ok, Err}
 use Rattle.std.proofs.Common.{sym, ap, subst, ◌∙◌, true≢false, append-nil, ⊎_elim}
 use Rattle.std.proofs.Math.Option.{Option, none, some}
 use Rattle.classes.specs.Choice.{pick}
 use Rattle.tokens.specs.Stream.{Placed}
 use Rattle.numbershape.specs.Value.{number_of}
-use Rattle.numbershape.specs.declared.Number.{Number}
-use Rattle.numbershape.specs.declared.Number.TheVariants as number
+use Rattle.numbershape.specs.declared.NotTime.{NotTime}
 use Rattle.grammar.specs.Ll.{Sym, lit, non, Alt, Row, Took, choose, onto, feeds, none≢some, both_true}
-use Rattle.grammar.specs.Machine.{fine, bad, fine_inj, bad≢fine, judges}
+use Rattle.grammar.specs.Machine.{fine, bad, fine_inj, judges}
 use Rattle.grammar.specs.Grammar.{Cls, Act, note, divide, scaled, unity, joined, cell, entry, time, skip, close, Term, N, header, timescale, bare, bare1, bare2, bare3, value, first, second, third, more, instance, specs, spec, deltype, deltypes, checks, delays, delay, device, check, end?, values, dividers, ◌⇒◌, ◌∣◌, ◌‼◌, ⟨, ⟩, opens, closes, key, keyword, heads, cell_tail, alts, fits, file}
 use Rattle.grammar.specs.Grammar as G
-use Rattle.grammar.specs.Meaning.{Book, overlong, timed, judge, judge_by}
+use Rattle.grammar.specs.Meaning.{Book, overlong, refused≢fine, timed, judge, judge_by}
 use Rattle.grammar.specs.Outcome.{Stack}
 use Rattle.laws.specs.Walk.{some_inj}
 use Rattle.laws.specs.Taken.{Taken, tells, opens_cell}
@@ -401,11 +400,9 @@ slash_behind b c (entry g) t d e =
     slash_simply (eqb b.item_room 0) 9 t.start _ d b.slash refl (pick_fine (overlong c t) 8 t.start _ d e).1
 slash_behind b c (time w k) t d e = by (number_of w b.unit t.bytes) e
   where
-    by : (v : Number) → timed b c k t v ≡ fine d → d.slash ≡ b.slash
-    by (number.Time z) e = slash_simply (overlong c t) 8 t.start _ d b.slash refl e
-    by number.Fine e = absurd (bad≢fine e)
-    by number.Beyond e = absurd (bad≢fine e)
-    by number.Wrong e = absurd (bad≢fine e)
+    by : (v : Result ℤ NotTime) → timed b c k t v ≡ fine d → d.slash ≡ b.slash
+    by (Ok z) e = slash_simply (overlong c t) 8 t.start _ d b.slash refl e
+    by (Err y) e = absurd (refused≢fine b c k t y e)
 
 -- ALL TOKENS
 abbrev pub Shaped : Stack → Bool → Type 0

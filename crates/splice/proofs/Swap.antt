@@ -5,7 +5,7 @@ use Rattle.std.proofs.Common.{add-zero, le_refl, arith, ap, ◌∙◌, sym, subs
 use Rattle.std.proofs.Math.Seq.{append_snoc, split_at, take-length}
 use Rattle.classes.specs.Classes.{class_of}
 use Rattle.classes.specs.ClassLaws.{open_byte, close_byte}
-use Rattle.tokenforms.specs.declared.Token.TheVariants.{Got}
+use Rattle.tokenforms.specs.Tokens.{Got}
 use Rattle.tokenforms.specs.Tokens.{token_at}
 use Rattle.tokens.specs.Stream.{Placed, part, stream, onwards}
 use Rattle.splice.proofs.Along.{Goes, Bracket, stream-goes, goes-stream, goes-append, goes-split, token_starts, goes_seam, last_seam, part-front, part-behind, move_tok, goes-move, stream-move}

@@ -10,8 +10,7 @@ use Rattle.classes.specs.Choice.{pick}
 use Rattle.names.specs.Name.{part_of}
 use Rattle.wire.specs.Wire.{Bytes}
 use Rattle.grammar.specs.declared.Cell as read
-use Rattle.sheetparts.specs.Form.{check_of}
-use Rattle.sheetparts.specs.declared.SheetCheck.TheVariants.{Good}
+use Rattle.sheetparts.specs.Form.{Good, check_of}
 use Rattle.views.specs.Views.{cell_at}
 use Rattle.history.specs.Events.{holds, final, history}
 use Rattle.history.proofs.EventLaws.{none≢some}

@@ -2,8 +2,7 @@
 -- Assumes nothing.
 use Rattle.std.specs.Prelude.{ℕ, suc, ◌≡◌, Bool, false, List}
 use Rattle.wire.specs.Wire.{Bytes}
-use Rattle.sheetparts.specs.Form.{check_of}
-use Rattle.sheetparts.specs.declared.SheetCheck.TheVariants.{Good}
+use Rattle.sheetparts.specs.Form.{Good, check_of}
 use Rattle.history.specs.Events.{Answer, sheet, refused}
 use Rattle.history.specs.Sheet as history
 use Rattle.history.specs.Sheet.{Slot, Values}

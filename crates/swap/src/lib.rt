@@ -4,15 +4,15 @@
 #![tactic(auto)]
 
 ghost use Rattle.std.specs.Prelude.{◌≡◌, length};
-ghost use Rattle.sheetparts.specs.Form.{check_of};
-ghost use Rattle.sheetparts.specs.declared.SheetCheck.TheVariants.{Good};
+ghost use Rattle.sheetparts.specs.Form.{Good, check_of};
 ghost use Rattle.swaparcs.specs.Loops.{SwapReady};
 ghost use Rattle.swap.specs.Swapped.{answer_by, SwapRun};
 ghost use Rattle.swap.specs.declared.Patched.TheVariants.{Refused};
 
 use arcrun::Least;
 use meant::entryarcs::Plan;
-use meant::{meaning, sheet};
+use meant::{Searched, meaning, sheet};
+use seating::Swapping;
 use swaparcs::Swap;
 
 // The answer: done, or the number of the refusal, its place and whether it is in the incoming text.
@@ -31,9 +31,9 @@ pub fn refused(number: u8, place: usize, incoming: bool) -> Patched
     ensures { result ≡ Refused number place incoming }
 {
     Patched::Refused {
-        number: number,
-        place: place,
-        incoming: incoming,
+        number,
+        place,
+        incoming,
     }
 }
 
@@ -54,15 +54,15 @@ fn answer_of(least: Least) -> Patched
 
 // Swaps one cell of a file that was read for the incoming one.
 pub fn swap_cell<'a>(
-    start: &[u8],
+    start: &'a [u8],
     file: &'a [u8],
     incoming: &'a [u8],
     plan: Plan,
     swap: Swap,
-    cells: &[u64],
-    entries: &[u64],
-    cells2: &[u64],
-    entries2: &[u64],
+    cells: &'a [u64],
+    entries: &'a [u64],
+    cells2: &'a [u64],
+    entries2: &'a [u64],
     current: &mut [u8],
 ) -> Patched
     requires { (check_of start.now ≡ Good plan.instances plan.arcs plan.first)
@@ -74,17 +74,29 @@ pub fn swap_cell<'a>(
     sheet::mark_instances(start, plan.instances, 12, &mut places);
     let mut marks = [0u32; 4096];
     sheet::mark_arcs(start, plan.arcs, plan.first, &mut marks);
+    let searched = Searched {
+        start,
+        plan,
+        places: &places,
+        marks: &marks,
+    };
     let at = swap.outgoing + swap.before;
-    let own = ownfaults::own_fault(start, incoming, plan, &places, &marks, cells2, entries2, at);
+    let own = ownfaults::own_fault(searched, incoming, cells2, entries2, at);
     let out = views::cell_at(cells, 7 * swap.outgoing);
-    let leaver = meaning::whom_of(start, file, plan, &places, out);
-    let leavertype = names::part_of(file, out.typefrom, out.typeto);
     let into = views::cell_at(cells2, 0);
-    let comer = meaning::whom_of(start, incoming, plan, &places, into);
-    let comertype = names::part_of(incoming, into.typefrom, into.typeto);
-    let least = swapseats::swap_seated(
-        start, file, incoming, plan, swap, &places, &marks, cells, entries, leaver, leavertype,
-        cells2, entries2, comer, comertype, own, current,
-    );
-    answer_of(least)
+    let swapping = Swapping {
+        searched,
+        swap,
+        file,
+        cells,
+        entries,
+        leaver: meaning::whom_of(start, file, plan, &places, out),
+        leavertype: names::part_of(file, out.typefrom, out.typeto),
+        incoming,
+        cells2,
+        entries2,
+        comer: meaning::whom_of(start, incoming, plan, &places, into),
+        comertype: names::part_of(incoming, into.typefrom, into.typeto),
+    };
+    answer_of(swapseats::swap_seated(swapping, own, current))
 }

@@ -8,8 +8,7 @@ use Rattle.std.proofs.Math.Option.{Option, none, some}
 use Rattle.std.proofs.lemmas.Bool.{eqb-false}
 use Rattle.classes.specs.Choice.{pick, and, or}
 use Rattle.wire.specs.Wire.{Bytes}
-use Rattle.sheetparts.specs.Form.{check_of, values_at}
-use Rattle.sheetparts.specs.declared.SheetCheck.TheVariants.{Good}
+use Rattle.sheetparts.specs.Form.{Good, check_of, values_at}
 use Rattle.sheetlaws.specs.Sheet.{place}
 use Rattle.history.specs.Events.{Event, holds, final, history, lenient}
 use Rattle.history.proofs.EventLaws.{clash, none≢some}

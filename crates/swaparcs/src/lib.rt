@@ -23,12 +23,7 @@ pub fn is_fault(least: Least) -> bool
 {
     match least {
         Least::Nothing => false,
-        Least::Fault {
-            event,
-            number,
-            place,
-            incoming,
-        } => true,
+        Least::Fault { .. } => true,
     }
 }
 
@@ -36,33 +31,21 @@ pub fn is_fault(least: Least) -> bool
 pub fn better(a: Least, b: Least) -> Least
     ensures { result ≡ better_of a b }
 {
-    match a {
-        Least::Nothing => b,
-        Least::Fault {
-            event,
-            number,
-            place,
-            incoming,
-        } => {
-            match b {
-                Least::Nothing => a,
-                Least::Fault {
-                    event: event2,
-                    number: number2,
-                    place: place2,
-                    incoming: incoming2,
-                } => {
-                    if event2 < event {
-                        return b;
-                    }
-                    if event2 == event {
-                        if number2 < number {
-                            return b;
-                        }
-                    }
-                    a
-                }
+    match (a, b) {
+        (Least::Nothing, _) => b,
+        (_, Least::Nothing) => a,
+        (
+            Least::Fault { event, number, .. },
+            Least::Fault {
+                event: event2,
+                number: number2,
+                ..
+            },
+        ) => {
+            if event2 < event || event2 == event && number2 < number {
+                return b;
             }
+            a
         }
     }
 }
@@ -72,12 +55,10 @@ pub fn write_back(current: &mut [u8], at: usize, state: &[u8], flags: &[u8])
     requires { (at + 144 ≤ length current.old) × (length state.now ≡ 144) × (length flags.now ≡ 18) }
     ensures { current.new ≡ back_written current.old at state.now flags.now 18 }
 {
-    let mut slot = 0;
-    while slot < 18 {
+    for slot in 0..18 {
         if flags[slot] != 0 {
             let word = wire::u64_at(state, 8 * slot);
             wire::write_i64(current, at + 8 * slot, wire::of_bits(word));
         }
-        slot += 1;
     }
 }

@@ -1,178 +1,130 @@
 // A part of the arcs that a swap may touch, up to 4,096, each with its seat in tables: their values go through the new file together.
 #![tactic(auto)]
 
-ghost use Rattle.std.specs.Prelude.{◌≡◌, ◌≤◌, length};
+ghost use Rattle.std.specs.Prelude.{◌≡◌, ◌*◌, ◌≤◌, length};
 ghost use Rattle.meant.specs.Find.{InstanceSearch, ArcSearch};
 ghost use Rattle.findseat.specs.Findseat.{InOrder};
-ghost use Rattle.nearby.specs.Seats.{There, Common};
+ghost use Rattle.nearby.specs.Seats.{Common};
 ghost use Rattle.swaparcs.specs.Loops.{SwapReady};
 ghost use Rattle.seating.specs.Seating.{SwapFits, FlagsSeated, StatesLoaded, FrontRan, SeatsThrough};
 
 use arcrun::Least;
-use meant::entryarcs::Plan;
-use meant::meaning::Whom;
-use swaparcs::Swap;
+use seating::Swapping;
+use seats::Seated;
 
 // The number of the first cell.
 const FIRST: usize = 0;
 
 // Takes the seats on through the incoming cell and those behind it.
-fn run_rest<'a>(
-    start: &[u8],
-    file: &'a [u8],
-    incoming: &'a [u8],
-    plan: Plan,
-    swap: Swap,
-    places: &[u32; 4096],
-    marks: &[u32; 4096],
-    cells: &[u64],
-    entries: &[u64],
-    cells2: &[u64],
-    entries2: &[u64],
-    common: &[u8],
-    arcs: &[usize; 4096],
-    count: usize,
-    flags: &[u8],
-    states: &mut [u8],
-) -> Least
-    requires { (InstanceSearch start.now plan.instances 12 places.now) × (ArcSearch start.now plan.arcs plan.first marks.now)
-        × (SwapReady cells.now entries.now cells2.now entries2.now swap) × (There start.now arcs.now count)
-        × (InOrder start.now plan.arcs plan.first arcs.now count) × (Common start.now arcs.now count common.now) × (count ≤ 4096)
-        × (length flags.now ≡ 73728) × (length states.old ≡ 589824) }
-    ensures { (length states.new ≡ 589824) × (FrontRan start.now plan.instances plan.arcs plan.first file.now incoming.now
-        plan.slash cells.now entries.now cells2.now entries2.now swap
-        arcs.now flags.now count states.old
-        → SeatsThrough start.now plan.instances plan.arcs plan.first file.now incoming.now
-        plan.slash cells.now entries.now cells2.now entries2.now swap
-        arcs.now flags.now count states.new result) }
+fn run_rest<'a>(swapping: Swapping<'a>, seated: Seated<'a>, states: &mut [u8]) -> Least
+    requires { (InstanceSearch swapping.searched.start.now swapping.searched.plan.instances 12 swapping.searched.places.now)
+        × (ArcSearch swapping.searched.start.now swapping.searched.plan.arcs swapping.searched.plan.first swapping.searched.marks.now)
+        × (SwapReady swapping.cells.now swapping.entries.now swapping.cells2.now swapping.entries2.now swapping.swap)
+        × (InOrder swapping.searched.start.now swapping.searched.plan.arcs swapping.searched.plan.first seated.arcs.now (length seated.arcs.now))
+        × (Common swapping.searched.start.now seated.arcs.now (length seated.arcs.now) seated.common.now)
+        × (18 * length seated.arcs.now ≤ length seated.flags.now) × (144 * length seated.arcs.now ≤ length states.old) }
+    ensures { let w = swapping.entry in let s = w.searched in let t = seated.entry in (length states.new ≡ length states.old)
+        × (FrontRan s.start.now s.plan.instances s.plan.arcs s.plan.first w.file.now w.incoming.now
+        s.plan.slash w.cells.now w.entries.now w.cells2.now w.entries2.now w.swap t.arcs.now t.flags.now (length t.arcs.now) states.old
+        → SeatsThrough s.start.now s.plan.instances s.plan.arcs s.plan.first w.file.now w.incoming.now
+        s.plan.slash w.cells.now w.entries.now w.cells2.now w.entries2.now w.swap t.arcs.now t.flags.now (length t.arcs.now) states.new result) }
 {
+    let searched = swapping.searched;
+    let swap = swapping.swap;
     let event = swap.outgoing + swap.before;
+    let text = swapping.incoming;
     let own = seats::run_seats(
-        start, file, incoming, true, plan, places, marks, cells2, 0, entries2, 0, common, arcs,
-        count, flags, states, event,
+        searched,
+        text,
+        true,
+        swapping.cells2,
+        0,
+        swapping.entries2,
+        0,
+        seated,
+        states,
+        event,
     );
     if swaparcs::is_fault(own) {
         return own;
     }
+    let next = swap.outgoing + 1;
     let behind = swap.before + swap.leaving;
     let begin = event + 1 + swap.coming;
+    let file = swapping.file;
     seats::run_cells(
-        start,
+        searched,
         file,
-        incoming,
-        plan,
-        places,
-        marks,
-        cells,
-        swap.outgoing + 1,
+        swapping.cells,
+        next,
         swap.cells,
-        entries,
+        swapping.entries,
         behind,
-        common,
-        arcs,
-        count,
-        flags,
+        seated,
         states,
         begin,
     )
 }
 
 // Takes the seats through the new file: the cells before the outgoing one, the incoming one, those behind.
-fn run_seated<'a>(
-    start: &[u8],
-    file: &'a [u8],
-    incoming: &'a [u8],
-    plan: Plan,
-    swap: Swap,
-    places: &[u32; 4096],
-    marks: &[u32; 4096],
-    cells: &[u64],
-    entries: &[u64],
-    cells2: &[u64],
-    entries2: &[u64],
-    common: &[u8],
-    arcs: &[usize; 4096],
-    count: usize,
-    flags: &[u8],
-    states: &mut [u8],
-) -> Least
-    requires { (InstanceSearch start.now plan.instances 12 places.now) × (ArcSearch start.now plan.arcs plan.first marks.now)
-        × (SwapReady cells.now entries.now cells2.now entries2.now swap) × (There start.now arcs.now count)
-        × (InOrder start.now plan.arcs plan.first arcs.now count) × (Common start.now arcs.now count common.now) × (count ≤ 4096)
-        × (length flags.now ≡ 73728) × (length states.old ≡ 589824)
-        × (StatesLoaded start.now arcs.now count states.old) }
-    ensures { (length states.new ≡ 589824) × SeatsThrough start.now plan.instances plan.arcs plan.first file.now incoming.now
-        plan.slash cells.now entries.now cells2.now entries2.now swap
-        arcs.now flags.now count states.new result }
+fn run_seated<'a>(swapping: Swapping<'a>, seated: Seated<'a>, states: &mut [u8]) -> Least
+    requires { (InstanceSearch swapping.searched.start.now swapping.searched.plan.instances 12 swapping.searched.places.now)
+        × (ArcSearch swapping.searched.start.now swapping.searched.plan.arcs swapping.searched.plan.first swapping.searched.marks.now)
+        × (SwapReady swapping.cells.now swapping.entries.now swapping.cells2.now swapping.entries2.now swapping.swap)
+        × (InOrder swapping.searched.start.now swapping.searched.plan.arcs swapping.searched.plan.first seated.arcs.now (length seated.arcs.now))
+        × (Common swapping.searched.start.now seated.arcs.now (length seated.arcs.now) seated.common.now)
+        × (18 * length seated.arcs.now ≤ length seated.flags.now) × (144 * length seated.arcs.now ≤ length states.old)
+        × (StatesLoaded swapping.searched.start.now seated.arcs.now (length seated.arcs.now) states.old) }
+    ensures { let w = swapping.entry in let s = w.searched in let t = seated.entry in (length states.new ≡ length states.old)
+        × SeatsThrough s.start.now s.plan.instances s.plan.arcs s.plan.first w.file.now w.incoming.now
+        s.plan.slash w.cells.now w.entries.now w.cells2.now w.entries2.now w.swap t.arcs.now t.flags.now (length t.arcs.now) states.new result }
 {
+    let searched = swapping.searched;
+    let to = swapping.swap.outgoing;
     let front = seats::run_cells(
-        start,
-        file,
-        incoming,
-        plan,
-        places,
-        marks,
-        cells,
+        searched,
+        swapping.file,
+        swapping.cells,
         FIRST,
-        swap.outgoing,
-        entries,
+        to,
+        swapping.entries,
         0,
-        common,
-        arcs,
-        count,
-        flags,
+        seated,
         states,
         0,
     );
     if swaparcs::is_fault(front) {
         return front;
     }
-    run_rest(
-        start, file, incoming, plan, swap, places, marks, cells, entries, cells2, entries2, common,
-        arcs, count, flags, states,
-    )
+    run_rest(swapping, seated, states)
 }
 
 // Flags the slots of all seats and takes their values from the starting sheet through the new file.
 pub fn run_chunk<'a>(
-    start: &[u8],
-    file: &'a [u8],
-    incoming: &'a [u8],
-    plan: Plan,
-    swap: Swap,
-    places: &[u32; 4096],
-    marks: &[u32; 4096],
-    cells: &[u64],
-    entries: &[u64],
-    leaver: Whom,
-    leavertype: &[u8],
-    cells2: &[u64],
-    entries2: &[u64],
-    comer: Whom,
-    comertype: &[u8],
-    arcs: &[usize; 4096],
-    count: usize,
-    flags: &mut [u8],
+    swapping: Swapping<'a>,
+    arcs: &'a [usize],
+    flags: &'a mut [u8],
     states: &mut [u8],
 ) -> Least
-    requires { (SwapFits start.now plan swap places.now marks.now cells.now entries.now leaver cells2.now entries2.now comer)
-        × (InOrder start.now plan.arcs plan.first arcs.now count) × (count ≤ 4096) × (length flags.old ≡ 73728)
-        × (length states.old ≡ 589824) }
-    ensures { (length flags.new ≡ 73728) × (length states.new ≡ 589824) × (FlagsSeated start.now plan.instances plan.arcs plan.first file.now incoming.now
-        plan.slash cells.now entries.now cells2.now entries2.now swap
-        leaver leavertype.now comer comertype.now arcs.now count flags.new)
-        × (SeatsThrough start.now plan.instances plan.arcs plan.first file.now incoming.now
-        plan.slash cells.now entries.now cells2.now entries2.now swap
-        arcs.now flags.new count states.new result) }
+    requires { (SwapFits swapping.searched.start.now swapping.searched.plan swapping.swap swapping.searched.places.now swapping.searched.marks.now
+        swapping.cells.now swapping.entries.now
+        swapping.leaver swapping.cells2.now swapping.entries2.now swapping.comer)
+        × (InOrder swapping.searched.start.now swapping.searched.plan.arcs swapping.searched.plan.first arcs.now (length arcs.now))
+        × (18 * length arcs.now ≤ length flags.old) × (144 * length arcs.now ≤ length states.old) }
+    ensures { let w = swapping.entry in let s = w.searched in (length flags.new ≡ length flags.old) × (length states.new ≡ length states.old)
+        × (FlagsSeated s.start.now s.plan.instances s.plan.arcs s.plan.first w.file.now w.incoming.now
+        s.plan.slash w.cells.now w.entries.now w.cells2.now w.entries2.now w.swap w.leaver w.leavertype.now w.comer w.comertype.now arcs.now (length arcs.now)
+        flags.new)
+        × (SeatsThrough s.start.now s.plan.instances s.plan.arcs s.plan.first w.file.now w.incoming.now
+        s.plan.slash w.cells.now w.entries.now w.cells2.now w.entries2.now w.swap arcs.now flags.new (length arcs.now) states.new result) }
 {
-    seating::flag_seats(
-        start, file, incoming, plan, swap, places, marks, cells, entries, leaver, leavertype,
-        cells2, entries2, comer, comertype, arcs, count, flags,
-    );
-    seating::load_seats(start, arcs, count, states);
-    let common = nearby::common_front(start, arcs, count);
-    run_seated(
-        start, file, incoming, plan, swap, places, marks, cells, entries, cells2, entries2, common,
-        arcs, count, flags, states,
-    )
+    let start = swapping.searched.start;
+    seating::flag_seats(swapping, arcs, flags);
+    seating::load_seats(start, arcs, states);
+    let seated = Seated {
+        arcs,
+        common: nearby::common_front(start, arcs),
+        flags,
+    };
+    run_seated(swapping, seated, states)
 }

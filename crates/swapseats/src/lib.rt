@@ -6,139 +6,89 @@ ghost use Rattle.std.specs.Prelude.{◌≡◌, length};
 ghost use Rattle.seating.specs.Seating.{SwapFits, MarksCover, SwapSeated};
 
 use arcrun::Least;
-use meant::entryarcs::Plan;
-use meant::meaning::Whom;
-use swaparcs::Swap;
+use seating::Swapping;
 
 // Judges all arcs, and writes them where there is no fault, so many at a time.
 fn swap_chunks<'a>(
-    start: &[u8],
-    file: &'a [u8],
-    incoming: &'a [u8],
-    plan: Plan,
-    swap: Swap,
-    places: &[u32; 4096],
-    marks: &[u32; 4096],
-    cells: &[u64],
-    entries: &[u64],
-    leaver: Whom,
-    leavertype: &[u8],
-    cells2: &[u64],
-    entries2: &[u64],
-    comer: Whom,
-    comertype: &[u8],
+    swapping: Swapping<'a>,
     bits: &[u8],
     own: Least,
     flags: &mut [u8],
     states: &mut [u8],
     current: &mut [u8],
 ) -> Least
-    requires { (SwapFits start.now plan swap places.now marks.now cells.now entries.now leaver cells2.now entries2.now comer)
-        × (MarksCover start.now plan.instances plan.arcs plan.first file.now incoming.now plan.slash cells.now entries.now
-        cells2.now entries2.now swap leaver leavertype.now comer comertype.now bits.now)
-        × (length bits.now ≡ 131072) × (length flags.old ≡ 73728)
-        × (length states.old ≡ 589824) × (length current.old ≡ length start.now) }
-    ensures { SwapSeated start.now plan.instances plan.arcs plan.first file.now incoming.now
-        plan.slash cells.now entries.now cells2.now entries2.now swap
-        leaver leavertype.now comer comertype.now own current.old current.new result }
+    requires { (SwapFits swapping.searched.start.now swapping.searched.plan swapping.swap swapping.searched.places.now swapping.searched.marks.now
+        swapping.cells.now swapping.entries.now
+        swapping.leaver swapping.cells2.now swapping.entries2.now swapping.comer)
+        × (MarksCover swapping.searched.start.now swapping.searched.plan.instances swapping.searched.plan.arcs swapping.searched.plan.first swapping.file.now
+        swapping.incoming.now
+        swapping.searched.plan.slash swapping.cells.now swapping.entries.now swapping.cells2.now swapping.entries2.now swapping.swap swapping.leaver
+        swapping.leavertype.now swapping.comer swapping.comertype.now bits.now)
+        × (length bits.now ≡ 131072) × (length flags.old ≡ 73728) × (length states.old ≡ 589824)
+        × (length current.old ≡ length swapping.searched.start.now) }
+    ensures { let w = swapping.entry in let s = w.searched in SwapSeated s.start.now s.plan.instances s.plan.arcs s.plan.first w.file.now w.incoming.now
+        s.plan.slash w.cells.now w.entries.now w.cells2.now w.entries2.now w.swap w.leaver w.leavertype.now w.comer w.comertype.now own current.old current.new
+        result }
 {
-    let best = chunks::judge_chunks(
-        start, file, incoming, plan, swap, places, marks, cells, entries, leaver, leavertype,
-        cells2, entries2, comer, comertype, bits, own, flags, states,
-    );
+    let best = chunks::judge_chunks(swapping, bits, own, flags, states);
     if !swaparcs::is_fault(best) {
-        chunks::write_chunks(
-            start, file, incoming, plan, swap, places, marks, cells, entries, leaver, leavertype,
-            cells2, entries2, comer, comertype, bits, flags, states, current,
-        );
+        chunks::write_chunks(swapping, bits, flags, states, current);
     }
     best
 }
 
-// Swaps the cell: the least fault of all touched slots and of the incoming cell's own, or, without one, the touched values are written. Most cells touch no more
-// arcs than there are seats, which then go through the new file once.
-pub fn swap_seated<'a>(
-    start: &[u8],
-    file: &'a [u8],
-    incoming: &'a [u8],
-    plan: Plan,
-    swap: Swap,
-    places: &[u32; 4096],
-    marks: &[u32; 4096],
-    cells: &[u64],
-    entries: &[u64],
-    leaver: Whom,
-    leavertype: &[u8],
-    cells2: &[u64],
-    entries2: &[u64],
-    comer: Whom,
-    comertype: &[u8],
+// Judges the arcs that were marked, and writes them where there is no fault. Most cells touch no more arcs than there are seats, which then go through the new
+// file once.
+fn swap_marked<'a>(
+    swapping: Swapping<'a>,
+    bits: &[u8],
     own: Least,
+    flags: &mut [u8],
+    states: &mut [u8],
     current: &mut [u8],
 ) -> Least
-    requires { (SwapFits start.now plan swap places.now marks.now cells.now entries.now leaver cells2.now entries2.now comer)
-        × (length current.old ≡ length start.now) }
-    ensures { SwapSeated start.now plan.instances plan.arcs plan.first file.now incoming.now
-        plan.slash cells.now entries.now cells2.now entries2.now swap
-        leaver leavertype.now comer comertype.now own current.old current.new result }
+    requires { (SwapFits swapping.searched.start.now swapping.searched.plan swapping.swap swapping.searched.places.now swapping.searched.marks.now
+        swapping.cells.now swapping.entries.now
+        swapping.leaver swapping.cells2.now swapping.entries2.now swapping.comer)
+        × (MarksCover swapping.searched.start.now swapping.searched.plan.instances swapping.searched.plan.arcs swapping.searched.plan.first swapping.file.now
+        swapping.incoming.now
+        swapping.searched.plan.slash swapping.cells.now swapping.entries.now swapping.cells2.now swapping.entries2.now swapping.swap swapping.leaver
+        swapping.leavertype.now swapping.comer swapping.comertype.now bits.now)
+        × (length bits.now ≡ 131072) × (length flags.old ≡ 73728) × (length states.old ≡ 589824)
+        × (length current.old ≡ length swapping.searched.start.now) }
+    ensures { let w = swapping.entry in let s = w.searched in SwapSeated s.start.now s.plan.instances s.plan.arcs s.plan.first w.file.now w.incoming.now
+        s.plan.slash w.cells.now w.entries.now w.cells2.now w.entries2.now w.swap w.leaver w.leavertype.now w.comer w.comertype.now own current.old current.new
+        result }
 {
-    let mut bits = [0u8; 131072];
-    seating::mark_both(
-        start, file, incoming, plan, swap, places, marks, cells, entries, leaver, leavertype,
-        cells2, entries2, comer, comertype, &mut bits,
-    );
-    let mut flags = [0u8; 73728];
-    let mut states = [0u8; 589824];
+    let start = swapping.searched.start;
+    let plan = swapping.searched.plan;
     let mut arcs = [0usize; 4096];
-    let chosen = choosing::choose(start, plan, &bits, 0, plan.first, &mut arcs);
+    let chosen = choosing::choose(start, plan, bits, 0, plan.first, &mut arcs);
     if chosen.next < plan.arcs {
-        return swap_chunks(
-            start,
-            file,
-            incoming,
-            plan,
-            swap,
-            places,
-            marks,
-            cells,
-            entries,
-            leaver,
-            leavertype,
-            cells2,
-            entries2,
-            comer,
-            comertype,
-            &bits,
-            own,
-            &mut flags,
-            &mut states,
-            current,
-        );
+        return swap_chunks(swapping, bits, own, flags, states, current);
     }
-    let fault = swapchunk::run_chunk(
-        start,
-        file,
-        incoming,
-        plan,
-        swap,
-        places,
-        marks,
-        cells,
-        entries,
-        leaver,
-        leavertype,
-        cells2,
-        entries2,
-        comer,
-        comertype,
-        &arcs,
-        chosen.count,
-        &mut flags,
-        &mut states,
-    );
+    let seated = &arcs[0..chosen.count];
+    let fault = swapchunk::run_chunk(swapping, seated, flags, states);
     let best = swaparcs::better(own, fault);
     if !swaparcs::is_fault(best) {
-        seating::write_seats(start, &arcs, chosen.count, &flags, &states, current);
+        seating::write_seats(start, seated, flags, states, current);
     }
     best
+}
+
+// Swaps the cell: the least fault of all touched slots and of the incoming cell's own, or, without one, the touched values are written.
+pub fn swap_seated<'a>(swapping: Swapping<'a>, own: Least, current: &mut [u8]) -> Least
+    requires { (SwapFits swapping.searched.start.now swapping.searched.plan swapping.swap swapping.searched.places.now swapping.searched.marks.now
+        swapping.cells.now swapping.entries.now
+        swapping.leaver swapping.cells2.now swapping.entries2.now swapping.comer)
+        × (length current.old ≡ length swapping.searched.start.now) }
+    ensures { let w = swapping.entry in let s = w.searched in SwapSeated s.start.now s.plan.instances s.plan.arcs s.plan.first w.file.now w.incoming.now
+        s.plan.slash w.cells.now w.entries.now w.cells2.now w.entries2.now w.swap w.leaver w.leavertype.now w.comer w.comertype.now own current.old current.new
+        result }
+{
+    let mut bits = [0u8; 131072];
+    seating::mark_both(swapping, &mut bits);
+    let mut flags = [0u8; 73728];
+    let mut states = [0u8; 589824];
+    swap_marked(swapping, &bits, own, &mut flags, &mut states, current)
 }

@@ -1,11 +1,9 @@
 -- The layout of the tables that reading leaves (document 01, 'What reading leaves'): a cell is 7 words, an entry 28.
 -- Assumes nothing.
-use Rattle.std.specs.Prelude.{◌≡◌, refl, List, [], ◌∷◌, ◌++◌, ℕ, zero, suc, ◌+◌, ◌*◌, ◌≤◌, ◌<◌, length, take, get_or}
+use Rattle.std.specs.Prelude.{◌≡◌, refl, List, [], ◌∷◌, ◌++◌, ℕ, zero, suc, ◌+◌, ◌*◌, ◌≤◌, ◌<◌, length, take, get_or, Some, None, Option, ℤ}
 use Rattle.std.proofs.Common.{◌∙◌, sym, append_assoc, append-nil, arith, add-one, length-append, length-take, get_or-take, of_z}
 use Rattle.std.proofs.Math.ListN.{get_or-eq_default}
 use Rattle.std.specs.Int.{w64}
-use Rattle.grammar.specs.declared.Amount.{Amount}
-use Rattle.grammar.specs.declared.Amount.TheVariants.{Absent, Time}
 use Rattle.grammar.specs.declared.Value.{Value}
 use Rattle.grammar.specs.declared.Entry.{Entry}
 use Rattle.grammar.specs.declared.Cell.{Cell}
@@ -16,9 +14,9 @@ abbrev pub cell_row : Cell → List ℕ
 cell_row c = c.place ∷ c.typefrom ∷ c.typeto ∷ c.sort ∷ c.pathfrom ∷ c.pathto ∷ c.entries ∷ []
 
 -- 'each of the three numbers is supplied or absent': femtoseconds in two's complement, the least number for an absent one
-abbrev pub amount_word : Amount → ℕ
-amount_word Absent = 9223372036854775808
-amount_word (Time z) = of_z w64 z
+abbrev pub amount_word : Option ℤ → ℕ
+amount_word None = 9223372036854775808
+amount_word (Some z) = of_z w64 z
 
 abbrev pub value_words : Value → List ℕ
 value_words v = amount_word v.min ∷ amount_word v.typ ∷ amount_word v.max ∷ []

@@ -5,25 +5,29 @@ ghost use Rattle.std.specs.Prelude.{◌≡◌, ◌+◌, ◌*◌, ◌≤◌, leng
 ghost use Rattle.tables.specs.Layout.{amount_word, value_words, values_row, head_row, cell_row, entry_row};
 ghost use Rattle.tables.specs.Pastes.{put};
 
-use grammar::{Amount, Cell, Entry, ReadEntry, Value};
+use grammar::{Cell, Entry, ReadEntry, Value};
 use wire::bits_of;
 
-fn amount_word(a: Amount) -> u64
-    ensures { result ≡ amount_word a }
+// A value that is not written.
+const NOTHING: Value = Value {
+    min: None,
+    typ: None,
+    max: None,
+};
+
+fn amount_word(amount: Option<i64>) -> u64
+    ensures { result ≡ amount_word amount }
 {
-    match a {
-        Amount::Absent => 0x8000_0000_0000_0000,
-        Amount::Time(z) => bits_of(z),
+    match amount {
+        None => 0x8000_0000_0000_0000,
+        Some(z) => bits_of(z),
     }
 }
 
 fn value_words(v: Value) -> [u64; 3]
     ensures { result ≡ value_words v }
 {
-    let min = v.min;
-    let typ = v.typ;
-    let max = v.max;
-    [amount_word(min), amount_word(typ), amount_word(max)]
+    [amount_word(v.min), amount_word(v.typ), amount_word(v.max)]
 }
 
 fn head_words(e: Entry, count: usize) -> [u64; 10]
@@ -62,11 +66,7 @@ fn put_words(table: &mut [u64], place: usize, words: &[u64])
     requires { place + length words.now ≤ length table.old }
     ensures { table.new ≡ put table.old place words.now }
 {
-    let mut k = 0;
-    while k < words.len() {
-        table[place + k] = words[k];
-        k += 1;
-    }
+    table[place..place + words.len()].copy_from_slice(words);
 }
 
 // Record k of a table of cells.
@@ -74,8 +74,7 @@ pub fn put_cell(table: &mut [u64], k: usize, c: Cell)
     requires { 7 * k + 7 ≤ length table.old }
     ensures { table.new ≡ put table.old (7 * k) (cell_row c) }
 {
-    let words = cell_words(c);
-    put_words(table, 7 * k, &words);
+    put_words(table, 7 * k, &cell_words(c));
 }
 
 // Six values, those behind the first count absent.
@@ -83,31 +82,18 @@ fn put_values(table: &mut [u64], place: usize, list: [Value; 6], count: usize)
     requires { (place + 18 ≤ length table.old) × (count ≤ 6) }
     ensures { (table.new ≡ put table.old place (values_row (take count list) 6)) × (length (take count list) ≡ count) }
 {
-    let mut i = 0;
-    while i < 6 {
-        let mut v = Value {
-            min: Amount::Absent,
-            typ: Amount::Absent,
-            max: Amount::Absent,
-        };
-        if i < count {
-            v = list[i];
-        }
-        let words = value_words(v);
-        put_words(table, place + 3 * i, &words);
-        i += 1;
+    for i in 0..6 {
+        let value = if i < count { list[i] } else { NOTHING };
+        put_words(table, place + 3 * i, &value_words(value));
     }
 }
 
 // Record k of a table of entries.
 pub fn put_entry(table: &mut [u64], k: usize, e: ReadEntry)
-    requires { (28 * k + 28 ≤ length table.old) × (e.count ≤ 6) }
-    ensures { table.new ≡ put table.old (28 * k) (entry_row (record { head = e.entry; values = take e.count e.list })) }
+    requires { 28 * k + 28 ≤ length table.old }
+    ensures { table.new ≡ put table.old (28 * k) (entry_row (record { head = e.entry; values = take e.values.count e.values.list })) }
 {
-    let head = e.entry;
-    let list = e.list;
-    let count = e.count;
-    let words = head_words(head, count);
-    put_words(table, 28 * k, &words);
-    put_values(table, 28 * k + 10, list, count);
+    let values = e.values;
+    put_words(table, 28 * k, &head_words(e.entry, values.count));
+    put_values(table, 28 * k + 10, values.list, values.count);
 }

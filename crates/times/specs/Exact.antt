@@ -1,13 +1,13 @@
 -- THE LAW: which of the four answers a word gets, exactly when, in document 01's terms and document 000's rules.
 -- Assumes nothing.
-use Rattle.std.specs.Prelude.{ℕ, zero, suc, ◌+◌, ◌*◌, ◌/◌, ◌%◌, ◌^◌, ◌≤◌, ◌<◌, ◌≡◌, refl, Bool, true, false, List, ◌↔◌, ◌⊎◌, eqb, leb, ℤ, pos, nat_abs}
+use Rattle.std.specs.Prelude.{ℕ, zero, suc, ◌+◌, ◌*◌, ◌/◌, ◌%◌, ◌^◌, ◌≤◌, ◌<◌, ◌≡◌, refl, Bool, true, false, List, ◌↔◌, ◌⊎◌, eqb, leb, ℤ, pos, nat_abs, Result, Ok, Err}
 use Rattle.std.specs.Int.{◌∣◌}
 use Rattle.std.proofs.Common.{ap, sym, ◌∙◌, inl, inr, ⊎_elim, arith, lit<, le-leb, ne_eqb, eqb-true, leb-true, leb-false}
 use Rattle.std.proofs.Math.Nat.{one-le-pow, mul-mod_left, mul-div_cancel, div-mul_cancel, mod-eq-zero_of_dvd, dvd_of_mod-eq-zero, dvd-mul_left}
 use Rattle.std.proofs.lemmas.Bool.{lt-leb, eqb-false}
 use Rattle.classes.specs.Choice.{pick}
-use Rattle.numbershape.specs.declared.Number.{Number}
-use Rattle.numbershape.specs.declared.Number.TheVariants.{Time, Fine, Beyond, Wrong}
+use Rattle.numbershape.specs.declared.NotTime.{NotTime}
+use Rattle.numbershape.specs.declared.NotTime.TheVariants.{Fine, Beyond, Wrong}
 use Rattle.numbershape.specs.Shape.{is_number, Written, parts_of}
 use Rattle.numbershape.specs.Value.{limit, with_sign, at_most, exact, digits, up, down, number_of, refusal}
 use Rattle.times.specs.Reading.{no, value-wrong}
@@ -31,8 +31,8 @@ abbrev pub IsFar : ℕ → Written → Type 0
 IsFar scale n = (q : ℕ) × (product scale n ≡ q * divisor n) × (limit < q)
 
 -- each answer exactly when
-pub record Exactly (signed : Bool) (scale : ℕ) (w : List ℕ) (r : Number) : Type 0 where
-  pub time : (z : ℤ) → (r ≡ Time z) ↔ ((n : Written) × Writes signed n w × IsTime scale n z)
+pub record Exactly (signed : Bool) (scale : ℕ) (w : List ℕ) (r : Result ℤ NotTime) : Type 0 where
+  pub time : (z : ℤ) → (r ≡ Ok z) ↔ ((n : Written) × Writes signed n w × IsTime scale n z)
   pub fine : (refusal r ≡ 6) ↔ ((n : Written) × Writes signed n w × (divisor n ∣ product scale n → ⊥))
   pub beyond : (refusal r ≡ 7) ↔ ((n : Written) × Writes signed n w × IsFar scale n)
   pub wrong : (refusal r ≡ 4) ↔ ((n : Written) → Writes signed n w → ⊥)
@@ -43,7 +43,7 @@ nat_abs_sign true (suc q) = refl
 nat_abs_sign false q = refl
 
 -- what a written number gets
-abbrev answer : ℕ → Written → Number
+abbrev answer : ℕ → Written → Result ℤ NotTime
 answer scale n = exact n.minus (digits n) (scale + up n) (down n)
 
 -- it is whole, or not
@@ -55,7 +55,7 @@ module _ (scale : ℕ) (n : Written) where
   unfolding exact
   is_whole q e = rw (e, mul-mod_left q (divisor n), mul-div_cancel q positive)
 
-  is_fine : (divisor n ∣ product scale n → ⊥) → answer scale n ≡ Fine
+  is_fine : (divisor n ∣ product scale n → ⊥) → answer scale n ≡ Err Fine
   unfolding exact
   is_fine f = rw (ne_eqb (product scale n % divisor n) 0 (λ z. f (dvd_of_mod-eq-zero (divisor n) z)))
 
@@ -75,10 +75,10 @@ module _ (scale : ℕ) (n : Written) where
   divides q e = rw e (dvd-mul_left (divisor n) q)
 
 -- the three answers that a written number may get, each with its reason
-data View (scale : ℕ) (n : Written) : Number → Type 0 where
-  near : (q : ℕ) → product scale n ≡ q * divisor n → q ≤ limit → View scale n (Time (with_sign n.minus q))
-  far : (q : ℕ) → product scale n ≡ q * divisor n → limit < q → View scale n Beyond
-  finer : (divisor n ∣ product scale n → ⊥) → View scale n Fine
+data View (scale : ℕ) (n : Written) : Result ℤ NotTime → Type 0 where
+  near : (q : ℕ) → product scale n ≡ q * divisor n → q ≤ limit → View scale n (Ok (with_sign n.minus q))
+  far : (q : ℕ) → product scale n ≡ q * divisor n → limit < q → View scale n (Err Beyond)
+  finer : (divisor n ∣ product scale n → ⊥) → View scale n (Err Fine)
 
 view : (scale : ℕ) (n : Written) → View scale n (answer scale n)
 view scale n =
@@ -88,12 +88,12 @@ view scale n =
     (either scale n)
   where
     by : (q : ℕ) → product scale n ≡ q * divisor n → (b : Bool) → leb q limit ≡ b
-        → View scale n (pick b (Time (with_sign n.minus q)) Beyond)
+        → View scale n (pick b (Ok (with_sign n.minus q)) (Err Beyond))
     by q e true h = near q e (leb-true q limit h)
     by q e false h = far q e (leb-false q limit h)
 
 module _ (scale : ℕ) (n : Written) where
-  to_time : (r : Number) (z : ℤ) → View scale n r → r ≡ Time z → IsTime scale n z
+  to_time : (r : Result ℤ NotTime) (z : ℤ) → View scale n r → r ≡ Ok z → IsTime scale n z
   to_time r z (near q e h) k =
       let s : z ≡ with_sign n.minus q = cc in
       let a : nat_abs z ≡ q = ap nat_abs s ∙ nat_abs_sign n.minus q in
@@ -101,23 +101,23 @@ module _ (scale : ℕ) (n : Written) where
   to_time r z (far q e h) k = let f : ◌≡◌ {A = ℕ} 0 1 = cc in absurd (omega arith)
   to_time r z (finer f) k = let f : ◌≡◌ {A = ℕ} 0 1 = cc in absurd (omega arith)
 
-  from_time : (z : ℤ) → IsTime scale n z → answer scale n ≡ Time z
-  from_time z t = is_whole scale n (nat_abs z) t.whole ∙ rw (le-leb (nat_abs z) limit t.near) (ap Time (sym t.sign))
+  from_time : (z : ℤ) → IsTime scale n z → answer scale n ≡ Ok z
+  from_time z t = is_whole scale n (nat_abs z) t.whole ∙ rw (le-leb (nat_abs z) limit t.near) (ap Ok (sym t.sign))
 
-  to_fine : (r : Number) → View scale n r → refusal r ≡ 6 → divisor n ∣ product scale n → ⊥
+  to_fine : (r : Result ℤ NotTime) → View scale n r → refusal r ≡ 6 → divisor n ∣ product scale n → ⊥
   to_fine r (near q e h) k d = omega (arith, k)
   to_fine r (far q e h) k d = omega (arith, k)
   to_fine r (finer f) k d = f d
 
-  to_far : (r : Number) → View scale n r → refusal r ≡ 7 → IsFar scale n
+  to_far : (r : Result ℤ NotTime) → View scale n r → refusal r ≡ 7 → IsFar scale n
   to_far r (near q e h) k = absurd (omega (arith, k))
   to_far r (far q e h) k = (q, e, h)
   to_far r (finer f) k = absurd (omega (arith, k))
 
-  from_far : IsFar scale n → answer scale n ≡ Beyond
+  from_far : IsFar scale n → answer scale n ≡ Err Beyond
   from_far f = is_whole scale n f.0 f.1 ∙ rw (lt-leb f.0 limit f.2)
 
-  not-wrong : (r : Number) → View scale n r → refusal r ≡ 4 → ⊥
+  not-wrong : (r : Result ℤ NotTime) → View scale n r → refusal r ≡ 4 → ⊥
   not-wrong r (near q e h) k = omega (arith, k)
   not-wrong r (far q e h) k = omega (arith, k)
   not-wrong r (finer f) k = omega (arith, k)
@@ -128,9 +128,9 @@ unfolding number_of
 of_written signed scale w n h = let p = written-number signed n w h in rw (p.0, p.1)
 
 -- the parts of a number, and the view of its answer
-data Case (signed : Bool) (scale : ℕ) (w : List ℕ) : Number → Type 0 where
-  number : (n : Written) {r : Number} → Writes signed n w → View scale n r → Case signed scale w r
-  other : ((n : Written) → Writes signed n w → ⊥) → Case signed scale w Wrong
+data Case (signed : Bool) (scale : ℕ) (w : List ℕ) : Result ℤ NotTime → Type 0 where
+  number : (n : Written) {r : Result ℤ NotTime} → Writes signed n w → View scale n r → Case signed scale w r
+  other : ((n : Written) → Writes signed n w → ⊥) → Case signed scale w (Err Wrong)
 
 case : (signed : Bool) (scale : ℕ) (w : List ℕ) → Case signed scale w (number_of signed scale w)
 case signed scale w = by (is_number signed w) refl
@@ -151,42 +151,42 @@ number-exact signed scale w =
       wrong = (wrong (number_of signed scale w) c, λ f. ap refusal (wrong_back f));
     }
   where
-    time : (r : Number) (z : ℤ) → Case signed scale w r → r ≡ Time z → (n : Written) × Writes signed n w × IsTime scale n z
+    time : (r : Result ℤ NotTime) (z : ℤ) → Case signed scale w r → r ≡ Ok z → (n : Written) × Writes signed n w × IsTime scale n z
     time r z (number n h v) e = (n, h, to_time scale n r z v e)
     time r z (other f) e = let f : ◌≡◌ {A = ℕ} 0 1 = cc in absurd (omega arith)
 
-    fine : (r : Number) → Case signed scale w r → refusal r ≡ 6
+    fine : (r : Result ℤ NotTime) → Case signed scale w r → refusal r ≡ 6
         → (n : Written) × Writes signed n w × (divisor n ∣ product scale n → ⊥)
     fine r (number n h v) e = (n, h, to_fine scale n r v e)
     fine r (other f) e = absurd (omega (arith, e))
 
-    beyond : (r : Number) → Case signed scale w r → refusal r ≡ 7 → (n : Written) × Writes signed n w × IsFar scale n
+    beyond : (r : Result ℤ NotTime) → Case signed scale w r → refusal r ≡ 7 → (n : Written) × Writes signed n w × IsFar scale n
     beyond r (number n h v) e = (n, h, to_far scale n r v e)
     beyond r (other f) e = absurd (omega (arith, e))
 
-    wrong : (r : Number) → Case signed scale w r → refusal r ≡ 4 → (n : Written) → Writes signed n w → ⊥
+    wrong : (r : Result ℤ NotTime) → Case signed scale w r → refusal r ≡ 4 → (n : Written) → Writes signed n w → ⊥
     wrong r (number n h v) e m k = not-wrong scale n r v e
     wrong r (other f) e m k = f m k
 
-    wrong_back : ((n : Written) → Writes signed n w → ⊥) → number_of signed scale w ≡ Wrong
+    wrong_back : ((n : Written) → Writes signed n w → ⊥) → number_of signed scale w ≡ Err Wrong
     wrong_back f = back (is_number signed w) refl
       where
-        back : (b : Bool) → is_number signed w ≡ b → number_of signed scale w ≡ Wrong
+        back : (b : Bool) → is_number signed w ≡ b → number_of signed scale w ≡ Err Wrong
         back true e = absurd (f (parts_of signed w) (number-written signed w e))
         back false e = value-wrong signed scale w e
 
 -- what callers go by: no number's shape exactly if `Wrong`; a time is within 10^15; and in a place without signs not below zero
-pub wrong_shape : (signed : Bool) (scale : ℕ) (w : List ℕ) → (number_of signed scale w ≡ Wrong) ↔ (is_number signed w ≡ false)
+pub wrong_shape : (signed : Bool) (scale : ℕ) (w : List ℕ) → (number_of signed scale w ≡ Err Wrong) ↔ (is_number signed w ≡ false)
 wrong_shape signed scale w = (by (is_number signed w) refl, value-wrong signed scale w)
   where
-    by : (b : Bool) → is_number signed w ≡ b → number_of signed scale w ≡ Wrong → is_number signed w ≡ false
+    by : (b : Bool) → is_number signed w ≡ b → number_of signed scale w ≡ Err Wrong → is_number signed w ≡ false
     by true e k = absurd ((number-exact signed scale w).wrong.0 (ap refusal k) (parts_of signed w) (number-written signed w e))
     by false e k = e
 
-pub time_near : (signed : Bool) (scale : ℕ) (w : List ℕ) (z : ℤ) → number_of signed scale w ≡ Time z → nat_abs z ≤ limit
+pub time_near : (signed : Bool) (scale : ℕ) (w : List ℕ) (z : ℤ) → number_of signed scale w ≡ Ok z → nat_abs z ≤ limit
 time_near signed scale w z e = (((number-exact signed scale w).time z).0 e).2.near
 
-pub time_unsigned : (scale : ℕ) (w : List ℕ) (z : ℤ) → number_of false scale w ≡ Time z → z ≡ pos (nat_abs z)
+pub time_unsigned : (scale : ℕ) (w : List ℕ) (z : ℤ) → number_of false scale w ≡ Ok z → z ≡ pos (nat_abs z)
 time_unsigned scale w z e =
     let t = ((number-exact false scale w).time z).0 e in
     t.2.sign ∙ ap (λ m. with_sign m (nat_abs z)) (unled t.1.led)

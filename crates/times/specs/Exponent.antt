@@ -1,23 +1,23 @@
 -- An exponent may be stopped at a bound: beyond it the answer does not change any more. So it is read up to there.
 -- Assumes nothing.
-use Rattle.std.specs.Prelude.{ℕ, ◌+◌, ◌-◌, ◌*◌, ◌^◌, ◌≤◌, ◌<◌, min, ◌≡◌, refl, Bool, true, false, List, [], ◌∷◌, eqb, leb, length, get_or, take, drop, pos}
+use Rattle.std.specs.Prelude.{ℕ, ◌+◌, ◌-◌, ◌*◌, ◌^◌, ◌≤◌, ◌<◌, min, ◌≡◌, refl, Bool, true, false, List, [], ◌∷◌, eqb, leb, length, get_or, take, drop, pos, Ok, Err}
 use Rattle.std.proofs.Common.{ap, sym, ◌∙◌, mul-le-mul_right, zero-mul, add-one, arith, lit<, drop_of_length-le, drop-cons, eqb-true, leb-true, leb-false}
 use Rattle.std.proofs.Math.Nat.{pow-le-pow_right}
 use Rattle.std.proofs.lemmas.Bool.{lt-leb, eqb-false}
 use Rattle.classes.specs.Choice.{pick}
-use Rattle.numbershape.specs.declared.Number.TheVariants.{Time, Fine, Beyond}
+use Rattle.numbershape.specs.declared.NotTime.TheVariants.{Fine, Beyond}
 use Rattle.numbershape.specs.Shape.{digits_of}
 use Rattle.numbershape.specs.Value.{horner, limit, at_most, exact}
 use Rattle.numbershape.specs.Fast.{zeros, Small, up-exact, down-exact, cut-exact}
 
 -- sixteen zeros are too many for any number but 0
-big : (minus : Bool) (m c : ℕ) → 16 ≤ c → at_most minus (m * 10 ^ c) ≡ pick (eqb m 0) (Time (pos 0)) Beyond
+big : (minus : Bool) (m c : ℕ) → 16 ≤ c → at_most minus (m * 10 ^ c) ≡ pick (eqb m 0) (Ok (pos 0)) (Err Beyond)
 big minus m c h = by minus (eqb m 0) refl
   where
     pos? : (m : ℕ) → (m ≡ 0 → ⊥) → 1 ≤ m
     pos? m f = omega arith
 
-    by : (minus b : Bool) → eqb m 0 ≡ b → at_most minus (m * 10 ^ c) ≡ pick b (Time (pos 0)) Beyond
+    by : (minus b : Bool) → eqb m 0 ≡ b → at_most minus (m * 10 ^ c) ≡ pick b (Ok (pos 0)) (Err Beyond)
     by true true e = let z : m ≡ 0 = eqb-true m 0 e in rw (z, zero-mul)
     by false true e = let z : m ≡ 0 = eqb-true m 0 e in rw (z, zero-mul)
     by minus false e =
@@ -52,7 +52,7 @@ stop-down minus ds sm k f e n l = by (leb e (k + n + 1)) refl
         let same : length ds - (f + e - k) ≡ length ds - (f + (k + n + 1) - k) = omega arith in
         rw z
         (down-exact minus (horner 0 ds) k (f + e) (omega arith) ∙ cut-exact minus ds sm (f + e - k)
-        ∙ ap (λ i. pick (zeros (drop i ds)) (at_most minus (horner 0 (take i ds))) Fine) same
+        ∙ ap (λ i. pick (zeros (drop i ds)) (at_most minus (horner 0 (take i ds))) (Err Fine)) same
         ∙ sym (cut-exact minus ds sm (f + (k + n + 1) - k)) ∙ sym (down-exact minus (horner 0 ds) k (f + (k + n + 1)) (omega arith)))
 
 -- the number that bytes write behind a, stopped at a bound at each digit

@@ -1,6 +1,6 @@
 -- Digits, with or without a point and digits behind it: how far they go, and the value of a word of them in one pass.
 -- Assumes nothing.
-use Rattle.std.specs.Prelude.{ℕ, ◌+◌, ◌-◌, ◌*◌, ◌^◌, ◌≤◌, ◌<◌, min, ◌≡◌, refl, Bool, true, false, not, eqb, leb, get_or, drop}
+use Rattle.std.specs.Prelude.{ℕ, ◌+◌, ◌-◌, ◌*◌, ◌^◌, ◌≤◌, ◌<◌, min, ◌≡◌, refl, Bool, true, false, not, eqb, leb, get_or, drop, Option, Some, None}
 use Rattle.std.proofs.Common.{ap, sym, ◌∙◌, lit<, drop_of_length-le, length-drop}
 use mathlib.Core.List.{List, [], ◌++◌, append-nil}
 use Rattle.std.proofs.Math.Nat.{add-zero, one-le-pow}
@@ -10,7 +10,6 @@ use Rattle.std.proofs.Math.Seq.{drop-drop}
 use borrow.Author.Tests.{eq-eqb, ne_eqb, eqb-true, leb-true, leb-false}
 use Rattle.classes.specs.Choice.{pick, and}
 use Rattle.times.specs.declared.Plain.{Plain}
-use Rattle.times.specs.declared.Plain.TheVariants.{Value, Other}
 use Rattle.numbershape.specs.Shape.{first, run, lead, pointed, leading, digits_then, marked}
 use Rattle.numbershape.specs.Shape.{exponent_fits, is_number, fraction_of, below_of, power_of, parts_of}
 use Rattle.numbershape.specs.Value.{horner, at_most, exact, number_of}
@@ -37,9 +36,12 @@ plain_digits u = horner 0 (leading u ++ fraction_of (drop (run u) u))
 abbrev pub plain_fraction : List ℕ → ℕ
 plain_fraction u = length (fraction_of (drop (run u) u))
 
+abbrev pub made_plain : ℕ → ℕ → ℕ → Plain
+made_plain v f e = record { value = v; fraction = f; end = e }
+
 -- what a text begins with that stands at s, its number stopped at 10^15 + 1
-unfoldable pub plain_of : ℕ → List ℕ → Plain
-plain_of s u = pick (begins u) (Value (min (plain_digits u) stop) (plain_fraction u) (s + size u)) Other
+unfoldable pub plain_of : ℕ → List ℕ → Option Plain
+plain_of s u = pick (begins u) (Some (made_plain (min (plain_digits u) stop) (plain_fraction u) (s + size u))) None
 
 -- a point stands within its text
 pub point_within : (w : List ℕ) (p : ℕ) → eqb (get_or w p 0) 46 ≡ true → p < length w
@@ -54,7 +56,7 @@ module _ (w : List ℕ) (s p : ℕ) (ep : p ≡ s + run (drop s w)) where
   tail_at : drop (run (drop s w)) (drop s w) ≡ drop p w
   tail_at = drop-drop (run (drop s w)) s w ∙ ap (λ n. drop n w) (sym ep)
 
-  pub plain-none : p ≡ s → plain_of s (drop s w) ≡ Other
+  pub plain-none : p ≡ s → plain_of s (drop s w) ≡ None
   unfolding plain_of begins
   plain-none z = rw (eq-eqb (run (drop s w)) 0 (omega arith))
 
@@ -62,18 +64,18 @@ module _ (w : List ℕ) (s p : ℕ) (ep : p ≡ s + run (drop s w)) where
     some : eqb (run (drop s w)) 0 ≡ false
     some = ne_eqb (run (drop s w)) 0 (λ y. z (omega (arith, y)))
 
-    pub plain-whole : eqb (get_or w p 0) 46 ≡ false → plain_of s (drop s w) ≡ Value (min (horner 0 (leading (drop s w))) stop) 0 p
+    pub plain-whole : eqb (get_or w p 0) 46 ≡ false → plain_of s (drop s w) ≡ Some (made_plain (min (horner 0 (leading (drop s w))) stop) 0 p)
     unfolding plain_of begins size fraction_of
     plain-whole e = rw (tail_at, pointed-none w p e, some, first-drop w p, e, append-nil, add-zero, ← ep)
 
     module _ (q : ℕ) (eq : q ≡ p + 1 + run (drop (p + 1) w)) (e : eqb (get_or w p 0) 46 ≡ true) where
-      pub plain_pointless : q - (p + 1) ≡ 0 → plain_of s (drop s w) ≡ Other
+      pub plain_pointless : q - (p + 1) ≡ 0 → plain_of s (drop s w) ≡ None
       unfolding plain_of begins
       plain_pointless y =
           rw (tail_at, pointed-some w p e, some, eq-eqb (1 + run (drop (p + 1) w)) 1 (omega arith))
 
       pub plain-pointed : (q - (p + 1) ≡ 0 → ⊥)
-          → plain_of s (drop s w) ≡ Value (min (horner (horner 0 (leading (drop s w))) (leading (drop (p + 1) w))) stop) (q - (p + 1)) q
+          → plain_of s (drop s w) ≡ Some (made_plain (min (horner (horner 0 (leading (drop s w))) (leading (drop (p + 1) w))) stop) (q - (p + 1)) q)
       unfolding plain_of begins size fraction_of
       plain-pointed y =
           let k : length (leading (drop (p + 1) w)) ≡ q - (p + 1) = leading-count (drop (p + 1) w) ∙ count in
@@ -101,13 +103,15 @@ pub record Stands (s : ℕ) (u : List ℕ) (value fraction end : ℕ) : Type 0 w
   pub behind : fraction ≡ plain_fraction u
   pub ends : end ≡ s + size u
 
-pub plain_stands : (s : ℕ) (u : List ℕ) (value fraction end : ℕ) → plain_of s u ≡ Value value fraction end → Stands s u value fraction end
+pub plain_stands : (s : ℕ) (u : List ℕ) (p : Plain) → plain_of s u ≡ Some p → Stands s u p.value p.fraction p.end
 unfolding plain_of
-plain_stands s u value fraction end h = by (begins u) refl h
+plain_stands s u p h = by (begins u) refl h
   where
-    by : (t : Bool) → begins u ≡ t → pick t (Value (min (plain_digits u) stop) (plain_fraction u) (s + size u)) Other ≡ Value value fraction end
-        → Stands s u value fraction end
-    by true b k = record { begun = b; number = cc; behind = cc; ends = cc }
+    by : (t : Bool) → begins u ≡ t → pick t (Some (made_plain (min (plain_digits u) stop) (plain_fraction u) (s + size u))) None ≡ Some p
+        → Stands s u p.value p.fraction p.end
+    by true b k =
+        let q : p ≡ made_plain (min (plain_digits u) stop) (plain_fraction u) (s + size u) = cc in
+        record { begun = b; number = ap (λ (x : Plain). x.value) q; behind = ap (λ (x : Plain). x.fraction) q; ends = ap (λ (x : Plain). x.end) q }
     by false b k = let z : ◌≡◌ {A = ℕ} 0 1 = cc in absurd (omega arith)
 
 pub plain_bound : {s : ℕ} {u : List ℕ} {value fraction end : ℕ} → Stands s u value fraction end → value ≤ stop

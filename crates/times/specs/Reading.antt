@@ -1,22 +1,21 @@
 -- What the parts found in a word come to: its digits, its exponent, and so its value.
 -- Assumes nothing.
 use Rattle.std.specs.Prelude.{ℕ, suc, ◌+◌, ◌-◌, ◌≤◌, min, ◌≡◌, refl, Bool, true, false, List, [], ◌∷◌, ◌++◌, eqb, leb, length, take, drop}
+use Rattle.std.specs.Prelude.{ℤ, Option, Some, None, is_some, Result, Err}
 use Rattle.std.proofs.Common.{zero-le, ap, sym, ◌∙◌, arith, length-append, length-drop, drop-drop, take-add, eqb-true, leb-true}
 use Rattle.std.proofs.Math.Nat.{add-zero}
 use Rattle.std.proofs.Math.Seq.{take-length}
 use Rattle.classes.specs.Choice.{pick, or, and}
 use Rattle.classes.specs.Classes.{is_digit}
 use Rattle.numbershape.specs.declared.Parts.{Parts}
-use Rattle.numbershape.specs.declared.Found.{Found}
-use Rattle.numbershape.specs.declared.Found.TheVariants.{Split, Misshapen}
 use Rattle.numbershape.specs.Shape.{Written, first, run, signs, lead, pointed, marked, leading}
 use Rattle.numbershape.specs.Shape.{digits_of, digits_then, is_end, exponent_fits, is_number, fraction_of, power_of, parts_of}
 use Rattle.numbershape.specs.Value.{horner, exact, number_of}
-use Rattle.numbershape.specs.Places.{run-cons, run_le, fraction_fits_lem, parts_at, found, is_split, found_shape}
+use Rattle.numbershape.specs.Places.{run-cons, run_le, fraction_fits_lem, parts_at, found, found_shape}
 use Rattle.numbershape.specs.Fast.{Small}
 use Rattle.times.specs.Exponent.{stop-up, stop-down}
-use Rattle.numbershape.specs.declared.Number.{Number}
-use Rattle.numbershape.specs.declared.Number.TheVariants.{Wrong}
+use Rattle.numbershape.specs.declared.NotTime.{NotTime}
+use Rattle.numbershape.specs.declared.NotTime.TheVariants.{Wrong}
 use Rattle.numbershape.specs.Steps.{figures}
 
 figures-append : (a b : List ℕ) → figures (a ++ b) ≡ figures a ++ figures b
@@ -201,11 +200,11 @@ reads_at signed w h =
     }
 
 -- and where they are found
-pub reads : (signed : Bool) (w : List ℕ) (p : Parts) → found signed w ≡ Split p → Reads signed w p
+pub reads : (signed : Bool) (w : List ℕ) (p : Parts) → found signed w ≡ Some p → Reads signed w p
 unfolding found
 reads signed w p h = by (is_number signed w) refl h
   where
-    by : (t : Bool) → is_number signed w ≡ t → pick t (Split (parts_at signed w)) Misshapen ≡ Split p → Reads signed w p
+    by : (t : Bool) → is_number signed w ≡ t → pick t (Some (parts_at signed w)) None ≡ Some p → Reads signed w p
     by true e k = let q : parts_at signed w ≡ p = cc in rw q at (reads_at signed w e)
     by false e k = let z : ◌≡◌ {A = ℕ} 0 1 = cc in absurd (omega arith)
 
@@ -238,26 +237,26 @@ module _ (signed : Bool) (w : List ℕ) (p : Parts) (r : Reads signed w p) where
       (stop-up p.minus (horner 0 (figures (take (p.end - p.start) (drop p.start w)))) scale (p.end - p.point - 1)
       (horner 0 (digits_of (drop p.power w))))
 
-pub value-wrong : (signed : Bool) (scale : ℕ) (w : List ℕ) → is_number signed w ≡ false → number_of signed scale w ≡ Wrong
+pub value-wrong : (signed : Bool) (scale : ℕ) (w : List ℕ) → is_number signed w ≡ false → number_of signed scale w ≡ Err Wrong
 unfolding number_of
 value-wrong signed scale w e = rw e
 
 -- the value by the places found: small numbers only, whatever the exponent
-abbrev pub placed : ℕ → List ℕ → Found → Number
-placed scale w (Split p) =
+abbrev pub placed : ℕ → List ℕ → Option Parts → Result ℤ NotTime
+placed scale w (Some p) =
     let m = horner 0 (figures (take (p.end - p.start) (drop p.start w))) in
     let f = p.end - p.point - 1 in
     let e = horner 0 (digits_of (drop p.power w)) in
     pick p.below (exact p.minus m scale (f + min e (scale + (p.point - p.start) + 1))) (exact p.minus m (scale + min e (f + 16)) f)
-placed scale w Misshapen = Wrong
+placed scale w None = Err Wrong
 
 pub number-placed : (signed : Bool) (scale : ℕ) (w : List ℕ) → number_of signed scale w ≡ placed scale w (found signed w)
 number-placed signed scale w = by (found signed w) refl
   where
-    split : (p : Parts) → Reads signed w p → (b : Bool) → p.below ≡ b → number_of signed scale w ≡ placed scale w (Split p)
+    split : (p : Parts) → Reads signed w p → (b : Bool) → p.below ≡ b → number_of signed scale w ≡ placed scale w (Some p)
     split p r true b = value-below signed w p r scale b ∙ rw b
     split p r false b = value_above signed w p r scale b ∙ rw b
 
-    by : (f : Found) → found signed w ≡ f → number_of signed scale w ≡ placed scale w f
-    by (Split p) e = split p (reads signed w p e) p.below refl
-    by Misshapen e = value-wrong signed scale w (sym (found_shape signed w) ∙ ap is_split e)
+    by : (f : Option Parts) → found signed w ≡ f → number_of signed scale w ≡ placed scale w f
+    by (Some p) e = split p (reads signed w p e) p.below refl
+    by None e = value-wrong signed scale w (sym (found_shape signed w) ∙ ap is_some e)

@@ -1,6 +1,7 @@
 -- Laws of digits and points where they stand: they begin as the text does, and what comes behind them does not count.
 -- Assumes nothing.
 use Rattle.std.specs.Prelude.{ℕ, zero, suc, ◌+◌, ◌-◌, ◌*◌, ◌^◌, ◌≤◌, ◌<◌, min, ◌≡◌, refl, Bool, true, List, [], ◌∷◌, eqb, leb, ℤ, get_or, take, drop}
+use Rattle.std.specs.Prelude.{Some, None, Result, Ok, Err}
 use Rattle.std.proofs.Math.Path.{ap}
 use Rattle.std.proofs.Common.{sym, ◌∙◌, true≢false, arith, le_of_suc-le-suc, not-suc-le-zero, length-take, length-drop, drop-drop, get_or-drop, get_or-take, ne_eqb, eqb-true, leb-true}
 use Rattle.std.proofs.Math.Bool.{false}
@@ -11,14 +12,13 @@ use Rattle.classes.specs.Classes.{is_digit}
 use Rattle.numbershape.specs.Shape.{first, run, signs, pointed, leading, exponent_fits, fraction_fits, fraction_of, is_number, parts_of}
 use Rattle.numbershape.specs.Places.{first-drop}
 use Rattle.numbershape.specs.Value.{at_most, number_of}
-use Rattle.numbershape.specs.declared.Number.{Number}
-use Rattle.numbershape.specs.declared.Number.TheVariants as number
-use Rattle.times.specs.declared.Plainly.TheVariants as found
+use Rattle.numbershape.specs.declared.NotTime.{NotTime}
+use Rattle.numbershape.specs.declared.NotTime.TheVariants.{Wrong}
 use Rattle.numbershape.specs.Steps.{stop}
+use Rattle.times.specs.declared.PlainTime as time
 use Rattle.times.specs.Reading.{value-wrong, and-true, then_fits}
-use Rattle.times.specs.declared.Plain.TheVariants as plain
-use Rattle.times.specs.Plain.{begins, size, size_le, plain_of, number-begins, plain_value, Stands}
-use Rattle.times.specs.Standing.{is_dotted, dotted, time_to, plainly}
+use Rattle.times.specs.Plain.{begins, size, size_le, made_plain, plain_of, number-begins, plain_value, Stands}
+use Rattle.times.specs.Standing.{is_dotted, dotted, plain_time, time_to, plainly}
 
 -- the digits that a text begins with are kept
 record Kept (u : List ℕ) : Type 0 where
@@ -188,18 +188,18 @@ kept_stands {s} {u} r =
     }
 
 -- no time: where they begin otherwise
-wrongly : (scale : ℕ) (w : List ℕ) (s : ℕ) → number_of false scale (dotted (drop s w)) ≡ number.Wrong → plainly scale w s ≡ found.Other
+wrongly : (scale : ℕ) (w : List ℕ) (s : ℕ) → number_of false scale (dotted (drop s w)) ≡ Err Wrong → plainly scale w s ≡ None
 unfolding plainly
 wrongly scale w s e = rw e
 
-pub plainly-none : (scale : ℕ) (w : List ℕ) (s : ℕ) → plain_of s (drop s w) ≡ plain.Other → plainly scale w s ≡ found.Other
+pub plainly-none : (scale : ℕ) (w : List ℕ) (s : ℕ) → plain_of s (drop s w) ≡ None → plainly scale w s ≡ None
 unfolding plain_of
 plainly-none scale w s h =
     let d = dotted (drop s w) in
     let b : begins (drop s w) ≡ false = by (begins (drop s w)) _ _ _ h in
     wrongly scale w s (value-wrong false scale d (number-begins false d ∙ rw (kept_begins (drop s w), b)))
   where
-    by : (t : Bool) (v f e : ℕ) → pick t (plain.Value v f e) plain.Other ≡ plain.Other → t ≡ false
+    by : (t : Bool) (v f e : ℕ) → pick t (Some (made_plain v f e)) None ≡ None → t ≡ false
     by true v f e k = let z : ◌≡◌ {A = ℕ} 0 1 = cc in absurd (omega arith)
     by false v f e k = refl
 
@@ -208,7 +208,7 @@ module _ (scale : ℕ) (w : List ℕ) (s value fraction end : ℕ) (r : Stands s
   ends_at = drop-drop (size (drop s w)) s w ∙ ap (λ n. drop n w) (sym r.ends)
 
   -- or go on with a point
-  pub plainly-more : eqb (get_or w end 0) 46 ≡ true → plainly scale w s ≡ found.Other
+  pub plainly-more : eqb (get_or w end 0) 46 ≡ true → plainly scale w s ≡ None
   plainly-more e =
       let u = drop s w in
       let d = dotted u in
@@ -260,7 +260,7 @@ run-first (b ∷ r) e = by (is_digit b) e
     by true k = refl
     by false k = absurd (true≢false k)
 
-time_first : (scale : ℕ) (w : List ℕ) (z : ℤ) → number_of false scale w ≡ number.Time z → is_digit (first w) ≡ true
+time_first : (scale : ℕ) (w : List ℕ) (z : ℤ) → number_of false scale w ≡ Ok z → is_digit (first w) ≡ true
 unfolding is_number
 time_first scale w z h = by (is_number false w) refl
   where
@@ -268,11 +268,9 @@ time_first scale w z h = by (is_number false w) refl
     by true e = run-first w (then_fits fraction_fits w e).0
     by false e = let x = value-wrong false scale w e in let y : ◌≡◌ {A = ℕ} 0 1 = cc in absurd (omega arith)
 
-time_of : (n : Number) (a e : ℕ) (z : ℤ) → time_to a n ≡ found.Time z e → (n ≡ number.Time z) × (a ≡ e)
-time_of (number.Time y) a e z h = (cc, cc)
-time_of number.Fine a e z h = let x : ◌≡◌ {A = ℕ} 0 1 = cc in absurd (omega arith)
-time_of number.Beyond a e z h = let x : ◌≡◌ {A = ℕ} 0 1 = cc in absurd (omega arith)
-time_of number.Wrong a e z h = let x : ◌≡◌ {A = ℕ} 0 1 = cc in absurd (omega arith)
+time_of : (n : Result ℤ NotTime) (a e : ℕ) (z : ℤ) → time_to a n ≡ Some (plain_time z e) → (n ≡ Ok z) × (a ≡ e)
+time_of (Ok y) a e z h = let t : plain_time y a ≡ plain_time z e = cc in (ap (λ (x : time.PlainTime). Ok x.femtoseconds) t, ap (λ (x : time.PlainTime). x.end) t)
+time_of (Err n) a e z h = let x : ◌≡◌ {A = ℕ} 0 1 = cc in absurd (omega arith)
 
 digit_some : (l : List ℕ) → is_digit (first l) ≡ true → 0 < length l
 digit_some [] e = absurd (true≢false (sym e))
@@ -284,9 +282,9 @@ pub record PlainTime (scale : ℕ) (s : List ℕ) (p : ℕ) (z : ℤ) (e : ℕ) 
   pub fits : e ≤ length s
   pub digit : is_digit (get_or s p 0) ≡ true
   pub each : (k : ℕ) → p ≤ k → k < e → is_dotted (get_or s k 0) ≡ true
-  pub time : (signed : Bool) → number_of signed scale (take (e - p) (drop p s)) ≡ number.Time z
+  pub time : (signed : Bool) → number_of signed scale (take (e - p) (drop p s)) ≡ Ok z
 
-pub plainly_time : (scale : ℕ) (s : List ℕ) (p : ℕ) (z : ℤ) (e : ℕ) → plainly scale s p ≡ found.Time z e → PlainTime scale s p z e
+pub plainly_time : (scale : ℕ) (s : List ℕ) (p : ℕ) (z : ℤ) (e : ℕ) → plainly scale s p ≡ Some (plain_time z e) → PlainTime scale s p z e
 unfolding plainly
 plainly_time scale s p z e h =
     let u = drop p s in

@@ -1,7 +1,7 @@
 // A number's exact value in femtoseconds (document 01, 'Numbers and times').
 #![tactic(auto)]
 
-ghost use Rattle.std.specs.Prelude.{◌≡◌, ◌+◌, ◌-◌, ◌*◌, ◌^◌, ◌≤◌, ◌<◌, min, eqb, length, get_or, drop};
+ghost use Rattle.std.specs.Prelude.{◌≡◌, ◌+◌, ◌-◌, ◌*◌, ◌^◌, ◌≤◌, ◌<◌, min, eqb, length, get_or, drop, IfSome};
 ghost use Rattle.numbershape.specs.Shape.{digits_of};
 ghost use Rattle.numbershape.specs.Value.{horner, at_most, exact, number_of};
 ghost use Rattle.numbershape.specs.Fast.{Small};
@@ -9,27 +9,21 @@ ghost use Rattle.numbershape.specs.Steps.{stop, figures, step_of, fold, start, a
 ghost use Rattle.times.specs.Standing.{time_to, plainly};
 ghost use Rattle.times.specs.Plain.{plain_of};
 
-use numbershape::{Digits, Found, Number};
-
-// One more than the 10^15 femtoseconds of the longest time: where numbers are stopped, since all beyond are alike.
-const STOP: u64 = 1_000_000_000_000_001;
+use numbershape::{Digits, NotTime, STOP};
 
 // Digits, with or without a point and digits behind it: their number, stopped at 10^15 + 1, how many stand behind the point, and where they end.
 #[derive(Clone, Copy)]
-enum Plain {
-    Value {
-        value: u64,
-        fraction: usize,
-        end: usize,
-    },
-    Other,
+struct Plain {
+    value: u64,
+    fraction: usize,
+    end: usize,
 }
 
 // A time read where it stands, and where it ends.
-#[derive(Clone, Copy)]
-pub enum Plainly {
-    Time { femtoseconds: i64, end: usize },
-    Other,
+#[derive(Clone, Copy, Debug, PartialEq, Eq)]
+pub struct PlainTime {
+    pub femtoseconds: i64,
+    pub end: usize,
 }
 
 // One byte more of a mantissa: the point is passed over.
@@ -37,26 +31,20 @@ fn step(digits: Digits, byte: u8) -> Digits
     requires { digits.value ≤ stop }
     ensures { (result ≡ step_of digits byte) × (result.value ≤ stop) }
 {
-    if b'0' <= byte {
-        let left = digits.left;
-        if left == 0 {
-            if byte == b'0' {
-                return digits;
-            }
-            return Digits {
-                value: digits.value,
-                left: left,
-                fine: true,
-            };
-        }
-        let value = numbershape::put(digits.value, numbershape::digit(byte));
+    if byte < b'0' {
+        return digits;
+    }
+    if digits.left == 0 {
         return Digits {
-            value: value,
-            left: left - 1,
-            fine: digits.fine,
+            fine: digits.fine || byte != b'0',
+            ..digits
         };
     }
-    digits
+    Digits {
+        value: numbershape::put(digits.value, numbershape::digit(byte)),
+        left: digits.left - 1,
+        ..digits
+    }
 }
 
 // The digits of a mantissa, of which so many are kept.
@@ -68,10 +56,8 @@ fn read_digits(text: &[u8], keep: usize) -> Digits
         left: keep,
         fine: false,
     };
-    let mut i = 0;
-    while i < text.len() {
-        digits = step(digits, text[i]);
-        i += 1;
+    for &byte in text {
+        digits = step(digits, byte);
     }
     digits
 }
@@ -97,51 +83,45 @@ fn raise(value: u64, n: usize) -> u64
     requires { value ≤ stop }
     ensures { (result ≡ min (value * 10 ^ n) stop) × (result ≤ stop) }
 {
-    if value < 1_000_000_000 {
-        if n <= 6 {
-            return value * ten_to(n);
-        }
+    if value < 1_000_000_000 && n <= 6 {
+        return value * ten_to(n);
     }
     if value == 0 {
         return 0;
     }
-    let mut v = value;
-    let mut left = n;
-    while 0 < left {
-        if STOP <= v {
-            return v;
+    let mut raised = value;
+    for _ in 0..n {
+        if STOP <= raised {
+            return raised;
         }
-        v = numbershape::put(v, 0);
-        left -= 1;
+        raised = numbershape::put(raised, 0);
     }
-    v
+    raised
 }
 
 // Whole femtoseconds: a time, if they are not too many.
-fn finish(minus: bool, value: u64) -> Number
+fn finish(minus: bool, value: u64) -> Result<i64, NotTime>
     ensures { result ≡ at_most minus value }
 {
     if STOP <= value {
-        return Number::Beyond;
+        return Err(NotTime::Beyond);
     }
-    if minus {
-        return Number::Time(0 - value as i64);
-    }
-    Number::Time(value as i64)
+    let time = value as i64;
+    Ok(if minus { -time } else { time })
 }
 
 // What the digits that were kept come to, if all the others are 0.
-fn finish_cut(minus: bool, digits: Digits) -> Number
+fn finish_cut(minus: bool, digits: Digits) -> Result<i64, NotTime>
     ensures { result ≡ answer_of minus digits }
 {
     if digits.fine {
-        return Number::Fine;
+        return Err(NotTime::Fine);
     }
     finish(minus, digits.value)
 }
 
 // The digits of a mantissa, of which there are n, times 10^up, over 10^down.
-fn scaled(text: &[u8], minus: bool, n: usize, up: usize, down: usize) -> Number
+fn scaled(text: &[u8], minus: bool, n: usize, up: usize, down: usize) -> Result<i64, NotTime>
     requires { (n ≡ length (figures text.now)) × Small (figures text.now) }
     ensures { result ≡ exact minus (horner 0 (figures text.now)) up down }
 {
@@ -150,34 +130,23 @@ fn scaled(text: &[u8], minus: bool, n: usize, up: usize, down: usize) -> Number
         return finish(minus, raise(digits.value, up - down));
     }
     let cut = down - up;
-    if cut <= n {
-        return finish_cut(minus, read_digits(text, n - cut));
-    }
-    finish_cut(minus, read_digits(text, 0))
+    finish_cut(minus, read_digits(text, n.saturating_sub(cut)))
 }
 
 // One digit more of an exponent, stopped at cap.
 fn put_power(value: usize, digit: usize, cap: usize) -> usize
-    requires { (value ≤ cap) × (digit < 256) × (cap + 256 < 2 ^ 64) }
-    ensures { (result ≡ min (value * 10 + digit) cap) × (result ≤ cap) }
+    ensures { result ≡ min (value * 10 + digit) cap }
 {
-    if cap / 10 < value {
-        return cap;
-    }
-    let next = value * 10 + digit;
-    if next < cap { next } else { cap }
+    value.saturating_mul(10).saturating_add(digit).min(cap)
 }
 
-// An exponent's digits, to the word's end: their number, stopped at cap.
-fn read_power(word: &[u8], from: usize, cap: usize) -> usize
-    requires { cap + 256 < 2 ^ 64 }
-    ensures { result ≡ min (horner 0 (digits_of (drop from word.now))) cap }
+// The number that an exponent's digits make, stopped at cap.
+fn read_power(digits: &[u8], cap: usize) -> usize
+    ensures { result ≡ min (horner 0 (digits_of digits.now)) cap }
 {
-    let mut value: usize = 0;
-    let mut i = from;
-    while i < word.len() {
-        value = put_power(value, numbershape::digit(word[i]) as usize, cap);
-        i += 1;
+    let mut value = 0;
+    for &byte in digits {
+        value = put_power(value, numbershape::digit(byte) as usize, cap);
     }
     value
 }
@@ -186,29 +155,22 @@ fn read_power(word: &[u8], from: usize, cap: usize) -> usize
 fn count_fraction(point: usize, end: usize) -> usize
     ensures { result ≡ end - point - 1 }
 {
-    if end <= point {
-        return 0;
-    }
-    end - point - 1
+    end.saturating_sub(point).saturating_sub(1)
 }
 
 // Any word: first where its parts stand, then its digits up to the femtosecond. The exponent is read up to a bound, beyond which the answer does
 // not change any more.
-fn read_any(word: &[u8], signed: bool, scale: u8) -> Number
+fn read_any(word: &[u8], signed: bool, scale: u8) -> Result<i64, NotTime>
     ensures { result ≡ number_of signed scale word.now }
 {
-    let Found::Split(parts) = numbershape::find_parts(word, signed) else {
-        return Number::Wrong;
-    };
-    let start = parts.start;
-    let point = parts.point;
-    let end = parts.end;
-    let whole = point - start;
-    let fraction = count_fraction(point, end);
-    let unit = scale as usize;
-    let mantissa = &word[start..end];
+    let parts = numbershape::find_parts(word, signed).ok_or(NotTime::Wrong)?;
+    let whole = parts.point - parts.start;
+    let fraction = count_fraction(parts.point, parts.end);
+    let unit = usize::from(scale);
+    let mantissa = &word[parts.start..parts.end];
+    let exponent = &word[parts.power..];
     if parts.below {
-        let power = read_power(word, parts.power, unit + whole + 1);
+        let power = read_power(exponent, unit + whole + 1);
         return scaled(
             mantissa,
             parts.minus,
@@ -217,7 +179,7 @@ fn read_any(word: &[u8], signed: bool, scale: u8) -> Number
             fraction + power,
         );
     }
-    let power = read_power(word, parts.power, fraction + 16);
+    let power = read_power(exponent, fraction + 16);
     scaled(
         mantissa,
         parts.minus,
@@ -231,99 +193,77 @@ fn read_any(word: &[u8], signed: bool, scale: u8) -> Number
 fn is_point(text: &[u8], at: usize) -> bool
     ensures { result ≡ eqb (get_or text.now at 0) 46 }
 {
-    if at < text.len() {
-        return text[at] == b'.';
-    }
-    false
+    text.get(at) == Some(&b'.')
 }
 
 // Digits, with or without a point and digits behind it, from a place on and as far as they go.
-fn scan_plain(text: &[u8], start: usize) -> Plain
+fn scan_plain(text: &[u8], start: usize) -> Option<Plain>
     requires { start ≤ length text.now }
-    ensures { result ≡ plain_of start (drop start text.now) }
+    ensures plain { result ≡ plain_of start (drop start text.now) }
+    ensures within { IfSome result (λ p. (p.value ≤ stop) × (start ≤ p.end) × (p.end ≤ length text.now)) }
 {
     let whole = numbershape::scan_digits(text, start, 0);
     let point = whole.end;
     if point == start {
-        return Plain::Other;
+        return None;
     }
     if !is_point(text, point) {
-        return Plain::Value {
+        return Some(Plain {
             value: whole.value,
             fraction: 0,
             end: point,
-        };
+        });
     }
     let all = numbershape::scan_digits(text, point + 1, whole.value);
-    let end = all.end;
-    let fraction = end - (point + 1);
+    let fraction = all.end - (point + 1);
     if fraction == 0 {
-        return Plain::Other;
+        return None;
     }
-    Plain::Value {
+    Some(Plain {
         value: all.value,
-        fraction: fraction,
-        end: end,
-    }
+        fraction,
+        end: all.end,
+    })
 }
 
 // What a word at a number's place is, with a time scale of 10^scale femtoseconds. Most words are plain, and no finer than the scale: they are
 // read in one pass.
-pub fn read_number(word: &[u8], signed: bool, scale: u8) -> Number
+pub fn read_number(word: &[u8], signed: bool, scale: u8) -> Result<i64, NotTime>
     ensures { result ≡ number_of signed scale word.now }
 {
     let start = numbershape::count_lead(word, signed);
-    let Plain::Value {
-        value,
-        fraction,
-        end,
-    } = scan_plain(word, start)
-    else {
-        return read_any(word, signed, scale);
-    };
-    if end < word.len() {
-        return read_any(word, signed, scale);
+    let unit = usize::from(scale);
+    match scan_plain(word, start) {
+        Some(plain) if word.len() <= plain.end && plain.fraction <= unit => finish(
+            numbershape::is_minus(word, signed),
+            raise(plain.value, unit - plain.fraction),
+        ),
+        _ => read_any(word, signed, scale),
     }
-    let unit = scale as usize;
-    if unit < fraction {
-        return read_any(word, signed, scale);
-    }
-    finish(
-        numbershape::is_minus(word, signed),
-        raise(value, unit - fraction),
-    )
 }
 
 // A number's time, with where it ends.
-fn time_to(end: usize, number: Number) -> Plainly
+fn time_to(end: usize, number: Result<i64, NotTime>) -> Option<PlainTime>
     ensures { result ≡ time_to end number }
 {
-    let Number::Time(femtoseconds) = number else {
-        return Plainly::Other;
-    };
-    Plainly::Time {
-        femtoseconds: femtoseconds,
-        end: end,
-    }
+    let femtoseconds = number.ok()?;
+    Some(PlainTime { femtoseconds, end })
 }
 
-// The time that the digits and points from a place on write, all of them, with a time scale of 10^scale femtoseconds; Other where they write none.
-pub fn read_plain(text: &[u8], from: usize, scale: u8) -> Plainly
+// The time that the digits and points from a place on write, all of them, with a time scale of 10^scale femtoseconds; None where they write none.
+pub fn read_plain(text: &[u8], from: usize, scale: u8) -> Option<PlainTime>
     requires { from ≤ length text.now }
     ensures { result ≡ plainly scale text.now from }
 {
-    let Plain::Value {
+    let Plain {
         value,
         fraction,
         end,
-    } = scan_plain(text, from)
-    else {
-        return Plainly::Other;
-    };
+    } = scan_plain(text, from)?;
     if is_point(text, end) {
-        return Plainly::Other;
+        return None;
     }
-    let unit = scale as usize;
+    let unit = usize::from(scale);
     if unit < fraction {
         return time_to(end, read_any(&text[from..end], false, scale));
     }

@@ -8,7 +8,7 @@ use Rattle.classes.specs.ClassLaws.{marked}
 use Rattle.scanning.specs.Machines.{word_end}
 use Rattle.scanning.specs.RunLaws.{word_starts}
 use Rattle.tokenforms.specs.Tokens.{token_of, token_here, string_at}
-use Rattle.tokenforms.specs.declared.Token.TheVariants.{Got}
+use Rattle.tokenforms.specs.Tokens.{Got}
 
 pub mark-here : (s : List ℕ) (i k : ℕ) → i < length s → mark_of (get_or s i 0) ≡ k → (k ≡ 0 → ⊥) → token_here s i ≡ Got k i (i + 1) false
 unfolding token_of

@@ -2,7 +2,7 @@
 -- Assumes nothing.
 use Prim.Native.Nat.{ℕ, suc, ◌+◌, ◌-◌, ◌≤◌, ◌<◌}
 use Rattle.std.proofs.Common.{eq-or-lt_of_le, add_assoc, add-one, arith, ◌∙◌, ⊎_elim, get_or-drop, drop-drop, leb-false, ltb-true, eqb-true}
-use Rattle.std.specs.Prelude.{◌≡◌, Bool, true, ◌⊎◌, List, [], ◌∷◌, ◌++◌, leb, ltb, eqb, length, drop, get_or}
+use Rattle.std.specs.Prelude.{◌≡◌, Bool, true, ◌⊎◌, List, [], ◌∷◌, ◌++◌, leb, ltb, eqb, length, drop, get_or, Result, Ok, Err}
 use Rattle.std.proofs.Math.Path.{refl, ap, sym}
 use Rattle.std.proofs.Math.Bool.{false}
 use Rattle.std.proofs.Math.ListN.{length-append, get_or-append}
@@ -16,20 +16,21 @@ use Rattle.tokenforms.specs.Tokens.{closing, spoilt, block_end, string_of, strin
 use Rattle.scanning.specs.Machines.{blank_end, blank_at}
 use Rattle.scanning.specs.declared.Blank.{Blank}
 use Rattle.tokenforms.specs.declared.Token.{Token}
-use Rattle.tokenforms.specs.declared.Token.TheVariants.{Got, Stop}
+use Rattle.tokenforms.specs.declared.Refusal.{Refusal}
+use Rattle.tokenforms.specs.Tokens.{Got, Refused}
 
 -- a token of s that ends at n or before, where no illegal byte stands (a string that ends at one is not yet whole)
-abbrev pub Inside : List ℕ → ℕ → Token → Type 0
-Inside s n (Got k b e l) = (e ≤ n) × (class_of (get_or s e 0) ≡ 0 → ⊥)
-Inside s n (Stop r p) = ⊥
+abbrev pub Inside : List ℕ → ℕ → Result Token Refusal → Type 0
+Inside s n (Ok tok) = (tok.end ≤ n) × (class_of (get_or s tok.end 0) ≡ 0 → ⊥)
+Inside s n (Err why) = ⊥
 
 -- down a chain of picks: the tests agree, and each branch agrees where it is inside
-level : (s : List ℕ) (n : ℕ) (t u : Bool) → u ≡ t → (x x' y y' : Token) → (Inside s n x → x' ≡ x) → (Inside s n y → y' ≡ y) → Inside s n (pick t x y) → pick u x' y' ≡ pick t x y
+level : (s : List ℕ) (n : ℕ) (t u : Bool) → u ≡ t → (x x' y y' : Result Token Refusal) → (Inside s n x → x' ≡ x) → (Inside s n y → y' ≡ y) → Inside s n (pick t x y) → pick u x' y' ≡ pick t x y
 level s n true u e x x' y y' f g h = rw e (f h)
 level s n false u e x x' y y' f g h = rw e (g h)
 
 -- what follows from each branch
-whence : {P : Type 0} (s : List ℕ) (n : ℕ) (t : Bool) (x y : Token) → (t ≡ true → Inside s n x → P) → (t ≡ false → Inside s n y → P) → Inside s n (pick t x y) → P
+whence : {P : Type 0} (s : List ℕ) (n : ℕ) (t : Bool) (x y : Result Token Refusal) → (t ≡ true → Inside s n x → P) → (t ≡ false → Inside s n y → P) → Inside s n (pick t x y) → P
 whence s n true x y f g h = f refl h
 whence s n false x y f g h = g refl h
 
@@ -76,7 +77,7 @@ spoilt_illegal s j h = by (close_stop q (class_of c)) refl (eqb (class_of c) 0) 
 string_in : (s : List ℕ) (n i : ℕ) → Inside s n (string_at s i) → closing s (i + 1) < n
 unfolding string_of
 string_in s n i h =
-    whence s n (leb (length s) (closing s (i + 1))) (Stop 3 i) _ (λ t k. absurd k) (λ t k. by (ltb (spoilt s (i + 1)) (closing s (i + 1))) refl k) h
+    whence s n (leb (length s) (closing s (i + 1))) (Refused 3 i) _ (λ t k. absurd k) (λ t k. by (ltb (spoilt s (i + 1)) (closing s (i + 1))) refl k) h
   where
     by : (t : Bool) → ltb (spoilt s (i + 1)) (closing s (i + 1)) ≡ t
         → (pick t (spoilt s (i + 1)) (closing s (i + 1) + 1) ≤ n) × (class_of (get_or s (pick t (spoilt s (i + 1)) (closing s (i + 1) + 1)) 0) ≡ 0 → ⊥)
@@ -84,8 +85,8 @@ string_in s n i h =
     by true e k = absurd (k.1 (spoilt_illegal s (i + 1) (ltb-true (spoilt s (i + 1)) (closing s (i + 1)) e)))
     by false e k = omega (arith, k.0)
 
-word_in : (s : List ℕ) (n j w : ℕ) → Inside s n (pick (leb w j) (Stop 2 j) (Got 7 j w (ltb 1024 (w - j)))) → (j < w) × (w ≤ n)
-word_in s n j w h = whence s n (leb w j) (Stop 2 j) _ (λ t k. absurd k) (λ t k. (leb-false w j t, k.0)) h
+word_in : (s : List ℕ) (n j w : ℕ) → Inside s n (pick (leb w j) (Refused 2 j) (Got 7 j w (ltb 1024 (w - j)))) → (j < w) × (w ≤ n)
+word_in s n j w h = whence s n (leb w j) (Refused 2 j) _ (λ t k. absurd k) (λ t k. (leb-false w j t, k.0)) h
 
 -- where a token is inside, it starts there
 token_in : (s : List ℕ) (n j k w : ℕ) → Inside s n (token_of s j k w) → j < n
@@ -132,10 +133,10 @@ module _ (s s' : List ℕ) (n : ℕ) (a : Alike s s' n) where
   token_of-same : (j k w w' : ℕ) → j < n → (w ≤ n → w' ≡ w) → Inside s n (token_of s j k w) → token_of s' j k w' ≡ token_of s j k w
   unfolding token_of
   token_of-same j k w w' h f z =
-      let word : ℕ → Token = λ v. pick (leb v j) (Stop 2 j) (Got 7 j v (ltb 1024 (v - j))) in
-      let one : Token = Got k j (j + 1) false in
+      let word : ℕ → Result Token Refusal = λ v. pick (leb v j) (Refused 2 j) (Got 7 j v (ltb 1024 (v - j))) in
+      let one : Result Token Refusal = Got k j (j + 1) false in
       level s n _ _ ((not_end j (omega arith)).1 ∙ sym (not_end j (omega arith)).0) _ _ _ _ (λ t. refl)
-      (λ t. level s n (eqb k 0) (eqb k 0) refl (Stop 2 j) (Stop 2 j) _ _ (λ t. refl)
+      (λ t. level s n (eqb k 0) (eqb k 0) refl (Refused 2 j) (Refused 2 j) _ _ (λ t. refl)
       (λ t. level s n (leb k 5) (leb k 5) refl one one _ _ (λ t. refl)
       (λ t. level s n (eqb k 6) (eqb k 6) refl (string_at s j) (string_at s' j) _ _ (λ t. string_at-same j t)
       (λ t. level s n (eqb k 12) (eqb k 12) refl one one (word w) (word w') (λ t. refl) (λ t. ap word (f (word_in s n j w t).1)) t) t) t) t) z

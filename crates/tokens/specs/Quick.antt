@@ -9,7 +9,7 @@ use Rattle.scanning.specs.Machines.{commences, word_end, blank_end, blank_at}
 use Rattle.scanning.specs.RunLaws.{unblank, word_starts, uncommented, plain-all}
 use Rattle.tokenforms.specs.Tokens.{behind, string_at, token_at}
 use Rattle.tokenforms.specs.HereLaws.{mark-here, string_here, word_here}
-use Rattle.tokenforms.specs.declared.Token.TheVariants.{Got}
+use Rattle.tokenforms.specs.Tokens.{Got}
 use Rattle.tokens.specs.declared.Sign.{Sign}
 
 pub white_token : (s : List ℕ) (i p : ℕ) → blank_end s i ≡ blank_end s p → blank_at s i ≡ blank_at s p → token_at s i ≡ token_at s p

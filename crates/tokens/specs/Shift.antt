@@ -1,6 +1,6 @@
 -- token_shift: behind a prefix, a text has the tokens that it has alone, with their places moved.
 -- Assumes nothing.
-use Rattle.std.specs.Prelude.{ℕ, suc, ◌+◌, ◌-◌, ◌≤◌, ◌≡◌, refl, Bool, true, false, List, [], ◌∷◌, ◌++◌, leb, ltb, eqb, length, drop, get_or}
+use Rattle.std.specs.Prelude.{ℕ, suc, ◌+◌, ◌-◌, ◌≤◌, ◌≡◌, refl, Bool, true, false, List, [], ◌∷◌, ◌++◌, leb, ltb, eqb, length, drop, get_or, Result, Ok, Err}
 use Rattle.std.proofs.Common.{add_assoc, arith, length-append, get_or-append-add, le-leb, leb-true, leb-false, lt-ltb, le-ltb, ltb-true, ltb-false}
 use Rattle.std.proofs.Math.Seq.{drop-append-add}
 use Rattle.std.proofs.lemmas.Bool.{lt-leb}
@@ -11,22 +11,23 @@ use Rattle.scanning.specs.Machines.{mode_next, word_end, blank_halts, blank_goes
 use Rattle.tokenforms.specs.Tokens.{closing, spoilt, block_end, string_of, string_at, token_of, token_here, behind, token_at}
 use Rattle.scanning.specs.declared.Blank.{Blank}
 use Rattle.tokenforms.specs.declared.Token.{Token}
-use Rattle.tokenforms.specs.declared.Token.TheVariants.{Got, Stop}
+use Rattle.tokenforms.specs.declared.Refusal.{Refusal}
+use Rattle.tokenforms.specs.Tokens.{Got, Refused}
 
 -- a token n bytes further on
-unfoldable pub moved : ℕ → Token → Token
-moved n (Got k b e l) = Got k (n + b) (n + e) l
-moved n (Stop r p) = Stop r (n + p)
+unfoldable pub moved : ℕ → Result Token Refusal → Result Token Refusal
+moved n (Ok tok) = Got tok.kind (n + tok.start) (n + tok.end) tok.long
+moved n (Err why) = Refused why.number (n + why.place)
 
 pub moved_got : (n k b e : ℕ) (l : Bool) → moved n (Got k b e l) ≡ Got k (n + b) (n + e) l
 unfolding moved
 moved_got n k b e l = refl
 
-pub moved-stop : (n r p : ℕ) → moved n (Stop r p) ≡ Stop r (n + p)
+pub moved-stop : (n r p : ℕ) → moved n (Refused r p) ≡ Refused r (n + p)
 unfolding moved
 moved-stop n r p = refl
 
-moved-pick : (n : ℕ) (b : Bool) (x y : Token) → moved n (pick b x y) ≡ pick b (moved n x) (moved n y)
+moved-pick : (n : ℕ) (b : Bool) (x y : Result Token Refusal) → moved n (pick b x y) ≡ pick b (moved n x) (moved n y)
 moved-pick n true x y = refl
 moved-pick n false x y = refl
 

@@ -1,7 +1,8 @@
 -- The tokens of a text with their places, and what ends them. Tokens go forward and stay inside the text.
 -- Assumes nothing.
-use Rattle.std.specs.Prelude.{ℕ, zero, suc, ◌+◌, ◌-◌, ◌≤◌, ◌<◌, ◌≡◌, refl, Bool, true, false, List, [], ◌∷◌, leb, ltb, eqb, length, take, drop}
+use Rattle.std.specs.Prelude.{ℕ, zero, suc, ◌+◌, ◌-◌, ◌≤◌, ◌<◌, ◌≡◌, refl, Bool, true, false, List, [], ◌∷◌, leb, ltb, eqb, length, take, drop, Result, Ok, Err, Some, None, Option}
 use Rattle.std.proofs.Common.{not-suc-le-zero, arith, sym, ap, subst, ◌∙◌, length-drop, le-leb, leb-false, ltb-true}
+use Rattle.std.proofs.lemmas.Option.{none-some, same_Some}
 use Rattle.classes.specs.Choice.{pick}
 use Rattle.scanning.specs.Scan.{scan_le, ends, ends_st}
 use Rattle.scanning.specs.Machines.{word_halts, word_goes, blank_halts, blank_goes, outside}
@@ -9,14 +10,15 @@ use Rattle.tokenforms.specs.Tokens.{string_of, token_of, behind, token_at, block
 use Rattle.scanning.specs.Machines.{blank_end, blank_at}
 use Rattle.scanning.specs.declared.Blank.{Blank}
 use Rattle.tokenforms.specs.declared.Token.{Token}
-use Rattle.tokenforms.specs.declared.Token.TheVariants.{Got, Stop}
+use Rattle.tokenforms.specs.declared.Refusal.{Refusal}
+use Rattle.tokenforms.specs.Tokens.{Got, Refused}
 
 -- A token starts at i or behind it, and ends behind its start and within n bytes; what is none has its place within them.
-abbrev pub Good : ℕ → ℕ → Token → Type 0
-Good i n (Got k b e l) = (i ≤ b) × (b < e) × (e ≤ n)
-Good i n (Stop r q) = q ≤ n
+abbrev pub Good : ℕ → ℕ → Result Token Refusal → Type 0
+Good i n (Ok tok) = (i ≤ tok.start) × (tok.start < tok.end) × (tok.end ≤ n)
+Good i n (Err why) = why.place ≤ n
 
-either : (i n : ℕ) (t : Bool) (x y : Token) → (t ≡ true → Good i n x) → (t ≡ false → Good i n y) → Good i n (pick t x y)
+either : (i n : ℕ) (t : Bool) (x y : Result Token Refusal) → (t ≡ true → Good i n x) → (t ≡ false → Good i n y) → Good i n (pick t x y)
 either i n true x y f g = f refl
 either i n false x y f g = g refl
 
@@ -62,7 +64,7 @@ pub onwards : (s : List ℕ) (p k b e : ℕ) (l : Bool) → p ≤ length s → t
 onwards s p k b e l h q = subst (λ x. Good p (length s) x) q (token_good s p h)
 
 -- behind the text's end the text ends
-pub token_beyond : (s : List ℕ) (p : ℕ) → length s ≤ p → token_at s p ≡ Stop 4 p
+pub token_beyond : (s : List ℕ) (p : ℕ) → length s ≤ p → token_at s p ≡ Refused 4 p
 unfolding token_at behind token_of
 token_beyond s p h =
     rw (ends blank_halts blank_goes s outside p h, ends_st blank_halts blank_goes s outside p h, le-leb (length s) p h)
@@ -91,9 +93,9 @@ pub record Stream : Type 0 where
 abbrev pub more : Placed → Stream → Stream
 more t r = record { toks = t ∷ r.toks; number = r.number; place = r.place }
 
-abbrev pub onward : List ℕ → Token → (ℕ → Stream) → Stream
-onward s (Got k b e l) f = more (placed s k b e l) (f e)
-onward s (Stop n q) f = record { toks = []; number = n; place = q }
+abbrev pub onward : List ℕ → Result Token Refusal → (ℕ → Stream) → Stream
+onward s (Ok tok) f = more (placed s tok.kind tok.start tok.end tok.long) (f tok.end)
+onward s (Err why) f = record { toks = []; number = why.number; place = why.place }
 
 -- of these, the first n; each token goes forward, so that as many as the text has bytes, and one more, are all
 unfoldable pub row : ℕ → List ℕ → ℕ → Stream
@@ -109,46 +111,47 @@ enough zero g s p h hf hg = absurd (not-suc-le-zero hf)
 enough (suc f) zero s p h hf hg = absurd (not-suc-le-zero hg)
 enough (suc f) (suc g) s p h hf hg = by (token_at s p) refl (enough f g s)
   where
-    by : (t : Token) → token_at s p ≡ t → ((q : ℕ) → q ≤ length s → length s - q < f → length s - q < g → row f s q ≡ row g s q)
+    by : (t : Result Token Refusal) → token_at s p ≡ t → ((q : ℕ) → q ≤ length s → length s - q < f → length s - q < g → row f s q ≡ row g s q)
         → onward s t (row f s) ≡ onward s t (row g s)
-    by (Got k b e l) q ih =
-        let z = onwards s p k b e l h q in ap (λ r. more (placed s k b e l) r) (ih e z.2 (omega arith) (omega arith))
-    by (Stop n r) q ih = refl
+    by (Ok tok) q ih =
+        let z = onwards s p tok.kind tok.start tok.end tok.long h q in ap (λ r. more (placed s tok.kind tok.start tok.end tok.long) r) (ih tok.end z.2 (omega arith) (omega arith))
+    by (Err why) q ih = refl
 
 -- the tokens from a place on: the one there, and those from its end on
 pub stream_turn : (s : List ℕ) (p : ℕ) → p ≤ length s → stream s p ≡ onward s (token_at s p) (stream s)
 unfolding row stream
 stream_turn s p h = by (token_at s p) refl
   where
-    by : (t : Token) → token_at s p ≡ t → onward s t (row (length s - p) s) ≡ onward s t (λ q. row (suc (length s - q)) s q)
-    by (Got k b e l) q =
-        let z = onwards s p k b e l h q in
-        ap (λ r. more (placed s k b e l) r) (enough (length s - p) (suc (length s - e)) s e z.2 (omega arith) (omega arith))
-    by (Stop n r) q = refl
+    by : (t : Result Token Refusal) → token_at s p ≡ t → onward s t (row (length s - p) s) ≡ onward s t (λ q. row (suc (length s - q)) s q)
+    by (Ok tok) q =
+        let z = onwards s p tok.kind tok.start tok.end tok.long h q in
+        ap (λ r. more (placed s tok.kind tok.start tok.end tok.long) r) (enough (length s - p) (suc (length s - tok.end)) s tok.end z.2 (omega arith) (omega arith))
+    by (Err why) q = refl
 
 abbrev pub count : List Placed → ℕ
 count [] = 0
 count (t ∷ ts) = suc (count ts)
 
--- where a token ends; 0 for what is none
-abbrev pub end_of : Token → ℕ
-end_of (Got k b e l) = e
-end_of (Stop n q) = 0
+-- where a token ends
+abbrev pub end_of : Result Token Refusal → Option ℕ
+end_of (Ok tok) = Some tok.end
+end_of (Err why) = None
 
 -- so many tokens are left behind one that ends at e, and none where there is none
-pub count-one : (s : List ℕ) (p e : ℕ) → p ≤ length s → e ≡ end_of (token_at s p) → (e ≡ 0 → ⊥)
+pub count-one : (s : List ℕ) (p e : ℕ) → p ≤ length s → Some e ≡ end_of (token_at s p)
     → (count (stream s p).toks ≡ suc (count (stream s e).toks)) × (p < e) × (e ≤ length s)
-count-one s p e h q n = by (token_at s p) refl q
+count-one s p e h q = by (token_at s p) refl q
   where
-    by : (t : Token) → token_at s p ≡ t → e ≡ end_of t → (count (stream s p).toks ≡ suc (count (stream s e).toks)) × (p < e) × (e ≤ length s)
-    by (Got k b f l) t z =
-        let w = onwards s p k b f l h t in
-        (ap (λ r. count r.toks) (stream_turn s p h) ∙ ap (λ x. count (onward s x (stream s)).toks) t ∙ ap (λ x. suc (count (stream s x).toks)) (sym z), omega arith, omega arith)
-    by (Stop m r) t z = absurd (n z)
+    by : (t : Result Token Refusal) → token_at s p ≡ t → Some e ≡ end_of t → (count (stream s p).toks ≡ suc (count (stream s e).toks)) × (p < e) × (e ≤ length s)
+    by (Ok tok) t z =
+        let w = onwards s p tok.kind tok.start tok.end tok.long h t in
+        let same : e ≡ tok.end = same_Some _ _ z in
+        (ap (λ r. count r.toks) (stream_turn s p h) ∙ ap (λ x. count (onward s x (stream s)).toks) t ∙ ap (λ x. suc (count (stream s x).toks)) (sym same), omega arith, omega arith)
+    by (Err why) t z = absurd (none-some _ (sym z))
 
-pub count_none : (s : List ℕ) (p : ℕ) → p ≤ length s → 0 ≡ end_of (token_at s p) → count (stream s p).toks ≡ 0
+pub count_none : (s : List ℕ) (p : ℕ) → p ≤ length s → None ≡ end_of (token_at s p) → count (stream s p).toks ≡ 0
 count_none s p h q = by (token_at s p) refl q
   where
-    by : (t : Token) → token_at s p ≡ t → 0 ≡ end_of t → count (stream s p).toks ≡ 0
-    by (Got k b f l) t z = let w = onwards s p k b f l h t in absurd (omega arith)
-    by (Stop m r) t z = ap (λ r. count r.toks) (stream_turn s p h) ∙ ap (λ x. count (onward s x (stream s)).toks) t
+    by : (t : Result Token Refusal) → token_at s p ≡ t → None ≡ end_of t → count (stream s p).toks ≡ 0
+    by (Ok tok) t z = absurd (none-some _ z)
+    by (Err why) t z = ap (λ r. count r.toks) (stream_turn s p h) ∙ ap (λ x. count (onward s x (stream s)).toks) t

@@ -2,10 +2,11 @@
 #![tactic(auto)]
 
 ghost use Rattle.std.specs.Prelude.{◌≡◌, ◌+◌, ◌≤◌, ◌<◌, length};
-ghost use Rattle.classes.specs.Choice.{pick};
 ghost use Rattle.sheetlaws.specs.Sheet.{ar_next};
 ghost use Rattle.patching.specs.Scratch.{touched_flags};
 ghost use Rattle.patching.specs.Meant.{may_touch};
+
+use sheetrecords::Arc;
 
 const SAME: u8 = 1;
 
@@ -16,32 +17,25 @@ pub fn touch_rows(rows: [[u64; 3]; 6], flags: &mut [u8])
     requires { length flags.old ≡ 18 }
     ensures { flags.new ≡ touched_flags flags.old rows 18 }
 {
-    let mut slot = 0;
-    while slot < 18 {
+    for slot in 0..18 {
         if rows[slot / 3][slot % 3] != EMPTY {
             flags[slot] = 1;
         }
-        slot += 1;
     }
 }
 
 // Whether a cell of a text can touch the arc: its path is a front part of one of the arc's ends.
-pub fn may_touch<'a>(
-    start: &[u8],
-    file: &'a [u8],
-    incoming: &'a [u8],
-    side: bool,
-    slash: bool,
-    from: usize,
-    to: usize,
-    arc: usize,
-) -> bool
+pub fn may_touch(start: &[u8], text: &[u8], slash: bool, from: usize, to: usize, arc: usize) -> bool
     requires { ar_next start.now arc ≤ length start.now }
-    ensures { result ≡ may_touch start.now (pick side incoming.now file.now) slash from to arc }
+    ensures { result ≡ may_touch start.now text.now slash from to arc }
 {
-    let path = names::name_of(file, incoming, side, from, to);
-    if names::cmp_front_written(sheetrecords::first_end(start, arc), path, slash) == SAME {
+    let path = names::part_of(text, from, to);
+    let arc = Arc {
+        sheet: start,
+        place: arc,
+    };
+    if names::cmp_front_written(arc.first_end(), path, slash) == SAME {
         return true;
     }
-    names::cmp_front_written(sheetrecords::second_end(start, arc), path, slash) == SAME
+    names::cmp_front_written(arc.second_end(), path, slash) == SAME
 }

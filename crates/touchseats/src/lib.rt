@@ -2,7 +2,6 @@
 #![tactic(auto)]
 
 ghost use Rattle.std.specs.Prelude.{◌≡◌, ◌+◌, ◌*◌, ◌≤◌, length};
-ghost use Rattle.classes.specs.Choice.{pick};
 ghost use Rattle.sheetlaws.specs.Sheet.{in_end};
 ghost use Rattle.meant.specs.Find.{ArcsGood, ArcSearch, InstanceSearch};
 ghost use Rattle.views.specs.Views.{head_at};
@@ -11,13 +10,12 @@ ghost use Rattle.meant.specs.WhomType.TheVariants.{One};
 ghost use Rattle.findseat.specs.Findseat.{InOrder};
 ghost use Rattle.touchseats.specs.Touchseats.{seat_touched, EntryTouched, SeatsTouched};
 
-use meant::amounts;
-use meant::entryarcs::Plan;
 use meant::meaning::Whom;
+use meant::{Asked, amounts};
 
 const DEVICE: u8 = 4;
 
-const CHECK: u8 = 84;
+const CHECK: u8 = b'T';
 
 // The bytes of a seat's flags.
 const FLAGS: usize = 18;
@@ -38,173 +36,104 @@ fn touch_seat(entries: &[u64], row: usize, flags: &mut [u8], seat: usize)
 }
 
 // Flags those of all seats whose arc it means: each is asked.
-fn touch_meant<'a>(
-    start: &[u8],
-    file: &'a [u8],
-    incoming: &'a [u8],
-    side: bool,
-    plan: Plan,
-    places: &[u32; 4096],
-    entries: &[u64],
-    row: usize,
-    whom: Whom,
-    celltype: &[u8],
-    arcs: &[usize; 4096],
-    count: usize,
-    flags: &mut [u8],
-)
-    requires { (InstanceSearch start.now plan.instances 12 places.now) × (ArcsGood start.now plan.arcs plan.first) × (InSheet start.now whom)
-        × (InOrder start.now plan.arcs plan.first arcs.now count) × (row + 28 ≤ length entries.now) × (count ≤ 4096)
-        × (18 * count ≤ length flags.old) }
-    ensures { (length flags.new ≡ length flags.old)
-        × EntryTouched start.now (pick side incoming.now file.now) plan.slash plan.instances entries.now row
-        whom celltype.now arcs.now flags.old count flags.new }
+fn touch_meant<'a>(asked: Asked<'a>, entries: &[u64], row: usize, arcs: &[usize], flags: &mut [u8])
+    requires { (InstanceSearch asked.searched.start.now asked.searched.plan.instances 12 asked.searched.places.now)
+        × (ArcsGood asked.searched.start.now asked.searched.plan.arcs asked.searched.plan.first) × (InSheet asked.searched.start.now asked.whom)
+        × (InOrder asked.searched.start.now asked.searched.plan.arcs asked.searched.plan.first arcs.now (length arcs.now))
+        × (row + 28 ≤ length entries.now) × (18 * length arcs.now ≤ length flags.old) }
+    ensures { let a = asked.entry in let s = a.searched in (length flags.new ≡ length flags.old)
+        × EntryTouched s.start.now a.text.now s.plan.slash s.plan.instances entries.now row
+        a.whom a.celltype.now arcs.now flags.old (length arcs.now) flags.new }
 {
     let entry = views::head_at(entries, row);
-    let mut i = 0;
-    while i < count {
-        if meant::is_meant(
-            start, file, incoming, side, plan, places, entry, whom, celltype, arcs[i],
-        ) {
-            touch_seat(entries, row, flags, i);
-        }
-        i += 1;
-    }
-}
-
-// Flags those of the one seat whose arc an entry other than DEVICE means in the instance at a place.
-fn touch_found<'a>(
-    start: &[u8],
-    file: &'a [u8],
-    incoming: &'a [u8],
-    side: bool,
-    plan: Plan,
-    places: &[u32; 4096],
-    marks: &[u32; 4096],
-    entries: &[u64],
-    row: usize,
-    instance: usize,
-    celltype: &[u8],
-    arcs: &[usize; 4096],
-    count: usize,
-    flags: &mut [u8],
-)
-    requires { (InstanceSearch start.now plan.instances 12 places.now) × (ArcSearch start.now plan.arcs plan.first marks.now)
-        × (in_end start.now instance ≤ length start.now) × (InOrder start.now plan.arcs plan.first arcs.now count)
-        × (row + 28 ≤ length entries.now) × (count ≤ 4096) × (18 * count ≤ length flags.old) × ((head_at entries.now row).kind ≡ 4 → ⊥) }
-    ensures { (length flags.new ≡ length flags.old)
-        × EntryTouched start.now (pick side incoming.now file.now) plan.slash plan.instances entries.now row
-        (One instance) celltype.now arcs.now flags.old count flags.new }
-{
-    let entry = views::head_at(entries, row);
-    let seat = findseat::find_seat(
-        start, file, incoming, side, plan, marks, entry, instance, arcs, count,
-    );
-    if seat < count {
-        if meant::is_meant(
-            start,
-            file,
-            incoming,
-            side,
-            plan,
-            places,
-            entry,
-            Whom::One(instance),
-            celltype,
-            arcs[seat],
-        ) {
+    for (seat, arc) in arcs.iter().enumerate() {
+        if meant::is_meant(asked, entry, *arc) {
             touch_seat(entries, row, flags, seat);
         }
     }
 }
 
-// Flags those of all seats whose arc it means, by search where there are many seats and it names one arc.
-fn touch_entry<'a>(
-    start: &[u8],
-    file: &'a [u8],
-    incoming: &'a [u8],
-    side: bool,
-    plan: Plan,
-    places: &[u32; 4096],
-    marks: &[u32; 4096],
+// Flags those of the one seat whose arc an entry other than DEVICE means in the instance at a place.
+fn touch_found<'a>(
+    asked: Asked<'a>,
     entries: &[u64],
     row: usize,
-    whom: Whom,
-    celltype: &[u8],
-    arcs: &[usize; 4096],
-    count: usize,
+    instance: usize,
+    arcs: &[usize],
     flags: &mut [u8],
 )
-    requires { (InstanceSearch start.now plan.instances 12 places.now) × (ArcSearch start.now plan.arcs plan.first marks.now)
-        × (InSheet start.now whom) × (InOrder start.now plan.arcs plan.first arcs.now count)
-        × (row + 28 ≤ length entries.now) × (count ≤ 4096) × (18 * count ≤ length flags.old) }
-    ensures { (length flags.new ≡ length flags.old)
-        × EntryTouched start.now (pick side incoming.now file.now) plan.slash plan.instances entries.now row
-        whom celltype.now arcs.now flags.old count flags.new }
+    requires { (InstanceSearch asked.searched.start.now asked.searched.plan.instances 12 asked.searched.places.now)
+        × (ArcSearch asked.searched.start.now asked.searched.plan.arcs asked.searched.plan.first asked.searched.marks.now)
+        × (in_end asked.searched.start.now instance ≤ length asked.searched.start.now) × (asked.whom ≡ One instance)
+        × (InOrder asked.searched.start.now asked.searched.plan.arcs asked.searched.plan.first arcs.now (length arcs.now))
+        × (row + 28 ≤ length entries.now) × (18 * length arcs.now ≤ length flags.old) × ((head_at entries.now row).kind ≡ 4 → ⊥) }
+    ensures { let a = asked.entry in let s = a.searched in (length flags.new ≡ length flags.old)
+        × EntryTouched s.start.now a.text.now s.plan.slash s.plan.instances entries.now row
+        a.whom a.celltype.now arcs.now flags.old (length arcs.now) flags.new }
 {
-    if FEW < count {
+    let entry = views::head_at(entries, row);
+    let sheet = asked.searched;
+    let found = findseat::find_seat(
+        sheet.start,
+        asked.text,
+        sheet.plan,
+        sheet.marks,
+        entry,
+        instance,
+        arcs,
+    );
+    if let Some(one) = found {
+        if meant::is_meant(asked, entry, arcs[one]) {
+            touch_seat(entries, row, flags, one);
+        }
+    }
+}
+
+// Flags those of all seats whose arc it means, by search where there are many seats and it names one arc.
+fn touch_entry<'a>(asked: Asked<'a>, entries: &[u64], row: usize, arcs: &[usize], flags: &mut [u8])
+    requires { (InstanceSearch asked.searched.start.now asked.searched.plan.instances 12 asked.searched.places.now)
+        × (ArcSearch asked.searched.start.now asked.searched.plan.arcs asked.searched.plan.first asked.searched.marks.now)
+        × (InSheet asked.searched.start.now asked.whom)
+        × (InOrder asked.searched.start.now asked.searched.plan.arcs asked.searched.plan.first arcs.now (length arcs.now))
+        × (row + 28 ≤ length entries.now) × (18 * length arcs.now ≤ length flags.old) }
+    ensures { let a = asked.entry in let s = a.searched in (length flags.new ≡ length flags.old)
+        × EntryTouched s.start.now a.text.now s.plan.slash s.plan.instances entries.now row
+        a.whom a.celltype.now arcs.now flags.old (length arcs.now) flags.new }
+{
+    if FEW < arcs.len() {
         let entry = views::head_at(entries, row);
         if entry.kind != DEVICE {
-            if let Whom::One(instance) = whom {
-                touch_found(
-                    start, file, incoming, side, plan, places, marks, entries, row, instance,
-                    celltype, arcs, count, flags,
-                );
+            if let Whom::One(instance) = asked.whom {
+                touch_found(asked, entries, row, instance, arcs, flags);
                 return;
             }
         }
     }
-    touch_meant(
-        start, file, incoming, side, plan, places, entries, row, whom, celltype, arcs, count, flags,
-    );
+    touch_meant(asked, entries, row, arcs, flags);
 }
 
 // Flags the slots of all seats that the entries of one cell supply.
 pub fn touch_seats<'a>(
-    start: &[u8],
-    file: &'a [u8],
-    incoming: &'a [u8],
-    side: bool,
-    plan: Plan,
-    places: &[u32; 4096],
-    marks: &[u32; 4096],
+    asked: Asked<'a>,
     entries: &[u64],
     first: usize,
     some: usize,
-    whom: Whom,
-    celltype: &[u8],
-    arcs: &[usize; 4096],
-    count: usize,
+    arcs: &[usize],
     flags: &mut [u8],
 )
-    requires { (InstanceSearch start.now plan.instances 12 places.now) × (ArcSearch start.now plan.arcs plan.first marks.now)
-        × (InSheet start.now whom) × (InOrder start.now plan.arcs plan.first arcs.now count)
-        × (28 * (first + some) ≤ length entries.now) × (count ≤ 4096) × (18 * count ≤ length flags.old) }
-    ensures { (length flags.new ≡ length flags.old)
-        × SeatsTouched start.now (pick side incoming.now file.now) plan.slash plan.instances entries.now first
-        some whom celltype.now arcs.now flags.old count flags.new }
+    requires { (InstanceSearch asked.searched.start.now asked.searched.plan.instances 12 asked.searched.places.now)
+        × (ArcSearch asked.searched.start.now asked.searched.plan.arcs asked.searched.plan.first asked.searched.marks.now)
+        × (InSheet asked.searched.start.now asked.whom)
+        × (InOrder asked.searched.start.now asked.searched.plan.arcs asked.searched.plan.first arcs.now (length arcs.now))
+        × (28 * (first + some) ≤ length entries.now) × (18 * length arcs.now ≤ length flags.old) }
+    ensures { let a = asked.entry in let s = a.searched in (length flags.new ≡ length flags.old)
+        × SeatsTouched s.start.now a.text.now s.plan.slash s.plan.instances entries.now first
+        some a.whom a.celltype.now arcs.now flags.old (length arcs.now) flags.new }
 {
-    if let Whom::Nobody(number) = whom {
+    if let Whom::Nobody(number) = asked.whom {
         return;
     }
-    let mut k = 0;
-    while k < some {
-        touch_entry(
-            start,
-            file,
-            incoming,
-            side,
-            plan,
-            places,
-            marks,
-            entries,
-            28 * (first + k),
-            whom,
-            celltype,
-            arcs,
-            count,
-            flags,
-        );
-        k += 1;
+    for k in 0..some {
+        touch_entry(asked, entries, 28 * (first + k), arcs, flags);
     }
 }

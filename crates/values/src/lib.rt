@@ -1,576 +1,343 @@
 // The readers of values: numbers, triples, lists of them, empty brackets. Each contract is an equation between readings
-// (rules/specs/Promises.antt). Every reader takes the text and the place from which to read.
+// (rules/specs/Promises.antt). Every reader takes the text and the place from which to read. A struct of
+// signed and unit would be no plainer: the one comes from an entry's kind, the other from the header, and they meet here alone.
 #![tactic(auto)]
 
-ghost use Rattle.std.specs.Prelude.{◌≡◌, true, false, ◌+◌, ◌-◌, ◌≤◌, ◌<◌, length, take};
+ghost use Rattle.std.specs.Prelude.{◌≡◌, None, Err, false, ◌≤◌, length};
 ghost use Rattle.tokens.specs.Stream.{placed};
 ghost use Rattle.grammar.specs.Ll.{non};
 ghost use Rattle.grammar.specs.Grammar.{third};
 ghost use Rattle.grammar.specs.Meaning.{wrongly};
-ghost use Rattle.rules.specs.Promises.{refusal_of, NumberHere, Marked, Reads, ReadsValue, OpensValue, ReadsValues, OpensValues};
-ghost use Rattle.values.specs.Parts.{Sees, LeadRead, FirstRead, MiddleRead};
+ghost use Rattle.rules.specs.Promises.{refusal_of, NumberHere, Marked, Reads, ReadsValue, OpensValue, ReadsValues, OpensValues, list_end, list_of};
+ghost use Rattle.values.specs.Parts.{Sees, any, LeadRead, FirstRead, MiddleRead};
 
-use grammar::{Amount, Here, Mark, ReadValue, Status, Value, Values};
-use numbershape::Number;
-use times::{Plainly, read_number, read_plain};
-use tokenforms::Token;
+use grammar::{ReadValue, Value, Values};
+use numbershape::NotTime;
+use times::{read_number, read_plain};
+use tokenforms::{Refusal, Token};
 use tokens::{mark_from, token_from};
 use words::key_of;
+
+// Empty brackets: nothing is supplied.
+const NO_VALUE: Value = Value {
+    min: None,
+    typ: None,
+    max: None,
+};
 
 // The refusal of a token that may not stand where it does: 5 for a word of the list right behind an opening bracket, else 4.
 pub fn wrong_at(word: &[u8], kind: u8, opened: bool) -> u8
     ensures { result ≡ wrongly opened kind word.now }
 {
-    if opened {
-        if kind == 7 {
-            let k = key_of(word);
-            if 90 <= k {
-                return 5;
-            }
-            return 4;
-        }
-        return 4;
+    if opened && kind == 7 && 90 <= key_of(word) {
+        return 5;
     }
     4
 }
 
 // The refusal of a word at a number's place that is no time; wrong is what it is if it has no number's shape.
-fn number_refusal(n: Number, wrong: u8) -> u8
-    ensures { result ≡ refusal_of n wrong }
+fn number_refusal(why: NotTime, wrong: u8) -> u8
+    ensures { result ≡ refusal_of (Err why) wrong }
 {
-    match n {
-        Number::Time(_) => 8,
-        Number::Fine => 6,
-        Number::Beyond => 7,
-        Number::Wrong => wrong,
+    match why {
+        NotTime::Fine => 6,
+        NotTime::Beyond => 7,
+        NotTime::Wrong => wrong,
     }
 }
 
 // A number where one is expected.
 fn number_here(
     text: &[u8],
-    kind: u8,
-    start: usize,
-    end: usize,
-    long: bool,
+    token: Token,
     signed: bool,
     unit: u8,
     opened: bool,
-) -> Here
-    requires { (start ≤ end) × (end ≤ length text.now) }
-    ensures { NumberHere (placed text.now kind start end long) signed unit opened result }
+) -> Result<i64, Refusal>
+    requires { (token.start ≤ token.end) × (token.end ≤ length text.now) }
+    ensures { NumberHere (placed text.now token.kind token.start token.end token.long) signed unit opened result }
 {
-    let word = &text[start..end];
-    if kind == 7 {
-        let n = read_number(word, signed, unit);
-        let Number::Time(z) = n else {
-            let wrong = wrong_at(word, kind, opened);
-            return Here::Refused {
-                number: number_refusal(n, wrong),
-                place: start,
-            };
-        };
-        if long {
-            return Here::Refused {
-                number: 8,
-                place: start,
-            };
+    let word = &text[token.start..token.end];
+    let place = token.start;
+    if token.kind != 7 {
+        let number = wrong_at(word, token.kind, opened);
+        return Err(Refusal { number, place });
+    }
+    let z = match read_number(word, signed, unit) {
+        Ok(z) => z,
+        Err(why) => {
+            let number = number_refusal(why, wrong_at(word, token.kind, opened));
+            return Err(Refusal { number, place });
         }
-        return Here::Time(z);
+    };
+    if token.long {
+        return Err(Refusal { number: 8, place });
     }
-    let wrong = wrong_at(word, kind, opened);
-    Here::Refused {
-        number: wrong,
-        place: start,
-    }
+    Ok(z)
 }
 
-// A mark where it is expected.
-pub fn expect(text: &[u8], from: usize, mark: u8) -> Mark
+// A mark where it is expected: the place behind it.
+pub fn expect(text: &[u8], from: usize, mark: u8) -> Result<usize, Refusal>
     requires { from ≤ length text.now }
     ensures { Marked text.now from mark result }
 {
-    let m = mark_from(text, from);
-    let i = m.place;
-    if m.kind == mark {
-        if 2 <= mark {
-            return Mark::At(i + 1);
-        }
+    let sign = mark_from(text, from);
+    if sign.kind == mark && 2 <= mark {
+        return Ok(sign.place + 1);
     }
-    let t = token_from(text, i);
-    match t {
-        Token::Stop { number, place } => Mark::Refused {
-            number: number,
-            place: place,
-        },
-        Token::Got {
-            kind,
-            start,
-            end,
-            long: _,
-        } => {
-            if kind == mark {
-                return Mark::At(end);
-            }
-            Mark::Refused {
-                number: 4,
-                place: start,
-            }
-        }
+    let token = token_from(text, sign.place)?;
+    if token.kind == mark {
+        return Ok(token.end);
     }
+    Err(Refusal {
+        number: 4,
+        place: token.start,
+    })
 }
 
-// The beginning of a value: all of it; or its first colon, and what stands before that; or a refusal.
+// The beginning of a value: all of it; or its first colon, and what stands before that.
 #[derive(Clone, Copy)]
 pub enum Lead {
-    Whole { v: Value, end: usize },
-    Colon { some: bool, min: Amount, end: usize },
-    Refused { number: u8, place: usize },
+    Whole(ReadValue),
+    Colon { min: Option<i64>, end: usize },
 }
 
-// A value's second colon, what stands between it and the first, and whether any number stands before it; or a refusal.
+// A value's second colon, and what stands between it and the first.
 #[derive(Clone, Copy)]
-pub enum Middle {
-    Colon { some: bool, typ: Amount, end: usize },
-    Refused { number: u8, place: usize },
+pub struct Middle {
+    pub typ: Option<i64>,
+    pub end: usize,
 }
 
-// What stands where a number may: a time; a closing bracket or a colon, of kind 3 or 4; or a refusal.
+// What stands where a number may: a time, or a closing bracket or a colon, of kind 3 or 4.
 #[derive(Clone, Copy)]
 pub enum Seen {
     Time { z: i64, end: usize },
     Mark { kind: u8, start: usize, end: usize },
-    Refused { number: u8, place: usize },
 }
 
 // What stands where a number may, of whatever form.
-fn see_token(text: &[u8], from: usize, signed: bool, unit: u8, opened: bool) -> Seen
+fn see_token(
+    text: &[u8],
+    from: usize,
+    signed: bool,
+    unit: u8,
+    opened: bool,
+) -> Result<Seen, Refusal>
     requires { from ≤ length text.now }
     ensures { Sees text.now from signed unit opened result }
 {
-    let t = token_from(text, from);
-    match t {
-        Token::Stop { number, place } => Seen::Refused {
-            number: number,
-            place: place,
-        },
-        Token::Got {
-            kind,
-            start,
-            end,
-            long,
-        } => {
-            if kind == 3 {
-                return Seen::Mark {
-                    kind: kind,
-                    start: start,
-                    end: end,
-                };
-            }
-            if kind == 4 {
-                return Seen::Mark {
-                    kind: kind,
-                    start: start,
-                    end: end,
-                };
-            }
-            let h = number_here(text, kind, start, end, long, signed, unit, opened);
-            match h {
-                Here::Refused { number, place } => Seen::Refused {
-                    number: number,
-                    place: place,
-                },
-                Here::Time(z) => Seen::Time { z: z, end: end },
-            }
-        }
+    let token = token_from(text, from)?;
+    if token.kind == 3 || token.kind == 4 {
+        return Ok(Seen::Mark {
+            kind: token.kind,
+            start: token.start,
+            end: token.end,
+        });
     }
+    let z = number_here(text, token, signed, unit, opened)?;
+    Ok(Seen::Time { z, end: token.end })
 }
 
 // What stands where a number may. Most numbers are plain, and read where they stand: they are words if no word goes on behind them.
-fn see_number(text: &[u8], from: usize, signed: bool, unit: u8, opened: bool) -> Seen
+fn see_number(
+    text: &[u8],
+    from: usize,
+    signed: bool,
+    unit: u8,
+    opened: bool,
+) -> Result<Seen, Refusal>
     requires { from ≤ length text.now }
     ensures { Sees text.now from signed unit opened result }
 {
-    let p = read_plain(text, from, unit);
-    match p {
-        Plainly::Other => see_token(text, from, signed, unit, opened),
-        Plainly::Time { femtoseconds, end } => {
-            if scanning::ends_word(text, end) {
-                if end - from <= 1024 {
-                    return Seen::Time {
-                        z: femtoseconds,
-                        end: end,
-                    };
-                }
-            }
-            see_token(text, from, signed, unit, opened)
-        }
+    let Some(plain) = read_plain(text, from, unit) else {
+        return see_token(text, from, signed, unit, opened);
+    };
+    let long = 1024 < plain.end - from;
+    if !long && scanning::ends_word(text, plain.end) {
+        return Ok(Seen::Time {
+            z: plain.femtoseconds,
+            end: plain.end,
+        });
     }
+    see_token(text, from, signed, unit, opened)
 }
 
-// Behind a value's second colon; some: whether a number stands before.
+// Behind a value's second colon. One of the three numbers must be supplied.
 fn read_third(
     text: &[u8],
     from: usize,
-    some: bool,
     signed: bool,
     unit: u8,
-    min: Amount,
-    typ: Amount,
-) -> ReadValue
+    min: Option<i64>,
+    typ: Option<i64>,
+) -> Result<ReadValue, Refusal>
     requires { from ≤ length text.now }
-    ensures { Reads text.now from (non (third some signed)) false (record { min = min; typ = typ; max = Amount.Absent }) unit result }
+    ensures { Reads text.now from (non (third (any min typ) signed)) false (record { min = min; typ = typ; max = None }) unit result }
 {
-    let t = see_number(text, from, signed, unit, false);
-    match t {
-        Seen::Refused { number, place } => ReadValue::Refused {
-            number: number,
-            place: place,
-        },
+    let value = Value {
+        min,
+        typ,
+        max: None,
+    };
+    match see_number(text, from, signed, unit, false)? {
         Seen::Mark { kind, start, end } => {
-            if kind == 4 {
-                return ReadValue::Refused {
+            if kind == 4 || typ.or(min).is_none() {
+                return Err(Refusal {
                     number: 4,
                     place: start,
-                };
+                });
             }
-            if some {
-                return ReadValue::Value {
-                    v: Value {
-                        min: min,
-                        typ: typ,
-                        max: Amount::Absent,
-                    },
-                    end: end,
-                };
-            }
-            ReadValue::Refused {
-                number: 4,
-                place: start,
-            }
+            Ok(ReadValue { value, end })
         }
         Seen::Time { z, end } => {
-            let m = expect(text, end, 3);
-            match m {
-                Mark::Refused { number, place } => ReadValue::Refused {
-                    number: number,
-                    place: place,
-                },
-                Mark::At(e) => ReadValue::Value {
-                    v: Value {
-                        min: min,
-                        typ: typ,
-                        max: Amount::Time(z),
-                    },
-                    end: e,
-                },
-            }
+            let end = expect(text, end, 3)?;
+            let value = Value {
+                max: Some(z),
+                ..value
+            };
+            Ok(ReadValue { value, end })
         }
     }
 }
 
-// Behind a value's first colon; some: whether a number stands before.
-fn read_second(text: &[u8], from: usize, some: bool, signed: bool, unit: u8) -> Middle
+// Behind a value's first colon.
+fn read_second(text: &[u8], from: usize, signed: bool, unit: u8) -> Result<Middle, Refusal>
     requires { from ≤ length text.now }
-    ensures { MiddleRead text.now from some signed unit result }
+    ensures { MiddleRead text.now from signed unit result }
 {
-    let m = mark_from(text, from);
-    let i = m.place;
-    if m.kind == 4 {
-        return Middle::Colon {
-            some: some,
-            typ: Amount::Absent,
-            end: i + 1,
-        };
+    let sign = mark_from(text, from);
+    if sign.kind == 4 {
+        return Ok(Middle {
+            typ: None,
+            end: sign.place + 1,
+        });
     }
-    let t = see_number(text, i, signed, unit, false);
-    match t {
-        Seen::Refused { number, place } => Middle::Refused {
-            number: number,
-            place: place,
-        },
+    match see_number(text, sign.place, signed, unit, false)? {
         Seen::Mark { kind, start, end } => {
             if kind == 4 {
-                return Middle::Colon {
-                    some: some,
-                    typ: Amount::Absent,
-                    end: end,
-                };
+                return Ok(Middle { typ: None, end });
             }
-            Middle::Refused {
+            Err(Refusal {
                 number: 4,
                 place: start,
-            }
+            })
         }
         Seen::Time { z, end } => {
-            let m = expect(text, end, 4);
-            match m {
-                Mark::Refused { number, place } => Middle::Refused {
-                    number: number,
-                    place: place,
-                },
-                Mark::At(e) => Middle::Colon {
-                    some: true,
-                    typ: Amount::Time(z),
-                    end: e,
-                },
-            }
+            let end = expect(text, end, 4)?;
+            Ok(Middle { typ: Some(z), end })
         }
     }
 }
 
 // Behind a value's first number.
-fn read_first(text: &[u8], from: usize, signed: bool, unit: u8, min: Amount) -> Lead
+fn read_first(text: &[u8], from: usize, signed: bool, unit: u8, z: i64) -> Result<Lead, Refusal>
     requires { from ≤ length text.now }
-    ensures { FirstRead text.now from signed unit min result }
+    ensures { FirstRead text.now from signed unit z result }
 {
-    let m = mark_from(text, from);
-    let i = m.place;
-    if m.kind == 3 {
-        return Lead::Whole {
-            v: Value {
-                min: min,
+    let token = token_from(text, from)?;
+    let end = token.end;
+    let min = Some(z);
+    match token.kind {
+        3 => Ok(Lead::Whole(ReadValue {
+            value: Value {
+                min,
                 typ: min,
                 max: min,
             },
-            end: i + 1,
-        };
-    }
-    if m.kind == 4 {
-        return Lead::Colon {
-            some: true,
-            min: min,
-            end: i + 1,
-        };
-    }
-    let t = token_from(text, i);
-    match t {
-        Token::Stop { number, place } => Lead::Refused {
-            number: number,
-            place: place,
-        },
-        Token::Got {
-            kind,
-            start,
             end,
-            long: _,
-        } => {
-            if kind == 3 {
-                return Lead::Whole {
-                    v: Value {
-                        min: min,
-                        typ: min,
-                        max: min,
-                    },
-                    end: end,
-                };
-            }
-            if kind == 4 {
-                return Lead::Colon {
-                    some: true,
-                    min: min,
-                    end: end,
-                };
-            }
-            Lead::Refused {
-                number: 4,
-                place: start,
-            }
-        }
+        })),
+        4 => Ok(Lead::Colon { min, end }),
+        _ => Err(Refusal {
+            number: 4,
+            place: token.start,
+        }),
     }
 }
 
 // The beginning of a value, behind its opening bracket.
-fn read_lead(text: &[u8], from: usize, signed: bool, unit: u8) -> Lead
+fn read_lead(text: &[u8], from: usize, signed: bool, unit: u8) -> Result<Lead, Refusal>
     requires { from ≤ length text.now }
     ensures { LeadRead text.now from signed unit result }
 {
-    let t = see_number(text, from, signed, unit, true);
-    match t {
-        Seen::Refused { number, place } => Lead::Refused {
-            number: number,
-            place: place,
-        },
+    match see_number(text, from, signed, unit, true)? {
         Seen::Mark {
             kind,
             start: _,
             end,
         } => {
             if kind == 3 {
-                return Lead::Whole {
-                    v: Value {
-                        min: Amount::Absent,
-                        typ: Amount::Absent,
-                        max: Amount::Absent,
-                    },
-                    end: end,
-                };
+                return Ok(Lead::Whole(ReadValue {
+                    value: NO_VALUE,
+                    end,
+                }));
             }
-            Lead::Colon {
-                some: false,
-                min: Amount::Absent,
-                end: end,
-            }
+            Ok(Lead::Colon { min: None, end })
         }
-        Seen::Time { z, end } => read_first(text, end, signed, unit, Amount::Time(z)),
+        Seen::Time { z, end } => read_first(text, end, signed, unit, z),
     }
 }
 
-// A value, behind its opening bracket. Each of its parts is read in one place, so that the value is made where it is returned.
-pub fn read_value(text: &[u8], from: usize, signed: bool, unit: u8) -> ReadValue
+// A value, behind its opening bracket.
+pub fn read_value(text: &[u8], from: usize, signed: bool, unit: u8) -> Result<ReadValue, Refusal>
     requires { from ≤ length text.now }
     ensures { ReadsValue text.now from signed unit result }
 {
-    let a = read_lead(text, from, signed, unit);
-    match a {
-        Lead::Refused { number, place } => ReadValue::Refused {
-            number: number,
-            place: place,
-        },
-        Lead::Whole { v, end } => ReadValue::Value { v: v, end: end },
-        Lead::Colon { some, min, end } => {
-            let b = read_second(text, end, some, signed, unit);
-            match b {
-                Middle::Refused { number, place } => ReadValue::Refused {
-                    number: number,
-                    place: place,
-                },
-                Middle::Colon {
-                    some: other,
-                    typ,
-                    end: behind,
-                } => read_third(text, behind, other, signed, unit, min, typ),
-            }
+    match read_lead(text, from, signed, unit)? {
+        Lead::Whole(read) => Ok(read),
+        Lead::Colon { min, end } => {
+            let middle = read_second(text, end, signed, unit)?;
+            read_third(text, middle.end, signed, unit, min, middle.typ)
         }
     }
 }
 
 // A value with its opening bracket.
-pub fn open_value(text: &[u8], from: usize, signed: bool, unit: u8) -> ReadValue
+pub fn open_value(text: &[u8], from: usize, signed: bool, unit: u8) -> Result<ReadValue, Refusal>
     requires { from ≤ length text.now }
     ensures { OpensValue text.now from signed unit result }
 {
-    let m = expect(text, from, 2);
-    match m {
-        Mark::Refused { number, place } => ReadValue::Refused {
-            number: number,
-            place: place,
-        },
-        Mark::At(inside) => read_value(text, inside, signed, unit),
-    }
-}
-
-// The same amount, made anew: its number is handed on, and not the room around it.
-fn again(a: Amount) -> Amount
-    ensures { result ≡ a }
-{
-    match a {
-        Amount::Absent => Amount::Absent,
-        Amount::Time(z) => Amount::Time(z),
-    }
-}
-
-// The same value, made anew.
-fn fresh(v: Value) -> Value
-    ensures { result ≡ v }
-{
-    let min = v.min;
-    let typ = v.typ;
-    let max = v.max;
-    Value {
-        min: again(min),
-        typ: again(typ),
-        max: again(max),
-    }
-}
-
-// No values, and why.
-pub fn no_values(number: u8, place: usize) -> Values
-    ensures { (result.status ≡ Status.Refused number place) × (result.count ≤ 6) }
-{
-    Values {
-        status: Status::Refused {
-            number: number,
-            place: place,
-        },
-        list: [Value {
-            min: Amount::Absent,
-            typ: Amount::Absent,
-            max: Amount::Absent,
-        }; 6],
-        count: 0,
-    }
+    let inside = expect(text, from, 2)?;
+    read_value(text, inside, signed, unit)
 }
 
 // One to six signed values, up to the closing bracket of their entry, behind the first one's opening bracket.
-pub fn read_values(text: &[u8], from: usize, unit: u8) -> Values
+pub fn read_values(text: &[u8], from: usize, unit: u8) -> Result<Values, Refusal>
     requires { from ≤ length text.now }
-    ensures { ReadsValues text.now from unit result.status (take result.count result.list) × (result.count ≤ 6) }
+    ensures { ReadsValues text.now from unit (list_end result) (list_of result) }
 {
-    let a = read_value(text, from, true, unit);
-    match a {
-        ReadValue::Refused { number, place } => no_values(number, place),
-        ReadValue::Value { v, end } => {
-            let mut list = [Value {
-                min: Amount::Absent,
-                typ: Amount::Absent,
-                max: Amount::Absent,
-            }; 6];
-            list[0] = fresh(v);
-            let mut n: usize = 1;
-            let mut p = end;
-            loop {
-                let t = token_from(text, p);
-                match t {
-                    Token::Stop { number, place } => {
-                        return no_values(number, place);
-                    }
-                    Token::Got {
-                        kind,
-                        start,
-                        end,
-                        long: _,
-                    } => {
-                        if kind == 3 {
-                            return Values {
-                                status: Status::Done(end),
-                                list: list,
-                                count: n,
-                            };
-                        }
-                        if kind == 2 {
-                            if 6 <= n {
-                                return no_values(4, start);
-                            }
-                            let b = read_value(text, end, true, unit);
-                            match b {
-                                ReadValue::Refused { number, place } => {
-                                    return no_values(number, place);
-                                }
-                                ReadValue::Value { v, end } => {
-                                    list[n] = fresh(v);
-                                    n += 1;
-                                    p = end;
-                                }
-                            }
-                        } else {
-                            return no_values(4, start);
-                        }
-                    }
-                }
-            }
+    let first = read_value(text, from, true, unit)?;
+    let mut list = [NO_VALUE; 6];
+    list[0] = first.value;
+    let mut count = 1;
+    let mut p = first.end;
+    loop {
+        let token = token_from(text, p)?;
+        if token.kind == 3 {
+            return Ok(Values {
+                list,
+                count,
+                end: token.end,
+            });
         }
+        if token.kind != 2 || 6 <= count {
+            return Err(Refusal {
+                number: 4,
+                place: token.start,
+            });
+        }
+        let next = read_value(text, token.end, true, unit)?;
+        list[count] = next.value;
+        count += 1;
+        p = next.end;
     }
 }
 
 // One to six signed values, with the first one's opening bracket.
-pub fn open_values(text: &[u8], from: usize, unit: u8) -> Values
+pub fn open_values(text: &[u8], from: usize, unit: u8) -> Result<Values, Refusal>
     requires { from ≤ length text.now }
-    ensures { OpensValues text.now from unit result.status (take result.count result.list) × (result.count ≤ 6) }
+    ensures { OpensValues text.now from unit (list_end result) (list_of result) }
 {
-    let m = expect(text, from, 2);
-    match m {
-        Mark::Refused { number, place } => no_values(number, place),
-        Mark::At(inside) => read_values(text, inside, unit),
-    }
+    let inside = expect(text, from, 2)?;
+    read_values(text, inside, unit)
 }

@@ -4,7 +4,7 @@ ghost use Rattle.views.specs.Views.{cell_at, head_at};
 
 use grammar::{Cell, Entry};
 
-// A word that holds a byte.
+// A word that holds a byte. `as` alone asks that it does, which a table that is lent does not say.
 fn byte(word: u64) -> u8
     ensures { result ≡ word % 256 }
 {

@@ -1,40 +1,28 @@
--- The bits of a signed number, by its sign.
+-- The library's numbers in bytes, as specs/Wire.antt spells them.
 -- Assumes nothing.
-use mathlib.Core.Path.{◌≡◌, refl, ap}
-use mathlib.Core.Bool.{true, false}
-use Prim.Native.Nat.{ℕ, zero, suc, ◌-◌, ◌≤◌, ◌^◌}
-use native.Mathlib.Omega.{arith}
-use native.Mathlib.Nat.{zero-add}
-use lib.Dec.{T}
-use lib.IntN.{ℤ, pos, negsuc, nat_abs, ◌-ℤ◌}
-use lib.Signed.{mag, le_z, non_neg}
-use mir.Syntax.{w64}
-use mir.Val.{to_z, of_z}
-use borrow.Author.Tests.{le-ltb, leb-false}
+use Rattle.std.specs.Prelude.{◌≡◌, List, ℕ, ◌+◌, ◌<◌, get_or, take, drop}
+use Rattle.std.proofs.Common.{◌∙◌, arith, add-zero, get_or-take, get_or-drop}
+use Rattle.std.specs.Int.{w16, w32, w64, from_be_bytes}
+use Rattle.wire.specs.Wire.{be16, be32, be64}
 
-pub no : {X : Type 0} → false ≡ true → X
-no e = let z : ◌≡◌ {A = ℕ} 0 1 = cc in absurd (omega arith)
+at : (n : ℕ) (b : List ℕ) (p i : ℕ) → i < n → get_or (take n (drop p b)) i 0 ≡ get_or b (p + i) 0
+at n b p i h = get_or-take n (drop p b) i 0 h ∙ get_or-drop p b i 0
 
--- -1 - m
-pub minus : (m : ℕ) → negsuc 0 -ℤ pos m ≡ negsuc m
-minus zero = refl
-minus (suc k) = ap (λ j. negsuc (suc j)) (zero-add k)
+pub be16_read : (b : List ℕ) (p : ℕ) → from_be_bytes w16 (take 2 (drop p b)) ≡ be16 b p
+unfolding be16
+be16_read b p =
+    let a : (i : ℕ) → i < 2 → get_or (take 2 (drop p b)) i 0 ≡ get_or b (p + i) 0 = at 2 b p in
+    rw (a 0 (omega arith), a 1 (omega arith), add-zero) (omega arith)
 
--- the bits from 2^63 on are those of the numbers below 0
-pub high_bits : (n : ℕ) → 2 ^ 63 ≤ n → to_z w64 n ≡ negsuc (2 ^ 64 - suc n)
-high_bits n h = rw (le-ltb n (2 ^ 63) h)
+pub be32_read : (b : List ℕ) (p : ℕ) → from_be_bytes w32 (take 4 (drop p b)) ≡ be32 b p
+unfolding be32
+be32_read b p =
+    let a : (i : ℕ) → i < 4 → get_or (take 4 (drop p b)) i 0 ≡ get_or b (p + i) 0 = at 4 b p in
+    rw (a 0 (omega arith), a 1 (omega arith), a 2 (omega arith), a 3 (omega arith), add-zero) (omega arith)
 
-pub not-below : (z : ℤ) → le_z (pos 0) z ≡ true → T (non_neg z) × (nat_abs z ≡ of_z w64 z)
-not-below (pos n) e = (tt, refl)
-not-below (negsuc n) e = no e
-
-pub flip : (z : ℤ) → le_z (pos 0) z ≡ false → negsuc 0 -ℤ z ≡ pos (mag z)
-flip (pos n) e = let h = leb-false 0 n e in absurd (omega arith)
-flip (negsuc k) e = rw (le-ltb (suc k) 1 (omega arith)) (ap pos (take-one k))
-  where
-    take-one : (k : ℕ) → suc k - 1 ≡ k
-    take-one k = omega arith
-
-pub low_bits : (z : ℤ) → le_z (pos 0) z ≡ false → 2 ^ 64 - 1 - mag z ≡ of_z w64 z
-low_bits (pos n) e = let h = leb-false 0 n e in absurd (omega arith)
-low_bits (negsuc k) e = omega arith
+pub be64_read : (b : List ℕ) (p : ℕ) → from_be_bytes w64 (take 8 (drop p b)) ≡ be64 b p
+unfolding be64
+be64_read b p =
+    let a : (i : ℕ) → i < 8 → get_or (take 8 (drop p b)) i 0 ≡ get_or b (p + i) 0 = at 8 b p in
+    rw (a 0 (omega arith), a 1 (omega arith), a 2 (omega arith), a 3 (omega arith), add-zero)
+    (rw (a 4 (omega arith), a 5 (omega arith), a 6 (omega arith), a 7 (omega arith)) (omega arith))

@@ -100,7 +100,7 @@ small_bytes (x ∷ w) e zero = let h = leb-true x 255 (both (leb x 255) (small w
 small_bytes (x ∷ w) e (suc i) = small_bytes w (both (leb x 255) (small w) e).1 i
 
 -- words of different lengths differ
-apart : (v w : List ℕ) → (length v ≡ length w → ⊥) → same w v ≡ false
+pub apart : (v w : List ℕ) → (length v ≡ length w → ⊥) → same w v ≡ false
 apart v w h = by (same w v) refl
   where
     by : (b : Bool) → same w v ≡ b → same w v ≡ false

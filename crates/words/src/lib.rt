@@ -1,7 +1,8 @@
 // Which word is which (document 01, 'Keywords are upper case, edges and units lower case'): the numbers are those of specs/Words.antt.
 //
-// Words are told apart as numbers: eight bytes are the eight digits of a number to the base 256, so that a whole word is
-// compared at once, and its code in hexadecimal can be read: 0x504F5254 is 50 4F 52 54, PORT.
+// Most words are told apart as numbers: eight bytes are the eight digits of a number to the base 256, so that a whole word is
+// compared at once, and its code in hexadecimal can be read: 0x504F5254 is 50 4F 52 54, PORT. (Arms such as `b"posedge"` and `b"10.0"` were
+// tried for edges and multiples: the proof that other words of these lengths are none did not close.)
 #![tactic(auto)]
 
 ghost use Rattle.std.specs.Prelude.{◌≤◌, ◌≡◌, eqb, length, take, drop};
@@ -10,22 +11,14 @@ ghost use Rattle.words.specs.Words.{key_of, edge_of, unit_of, multiple_of, scale
 ghost use Rattle.words.specs.Packed.{packed, among, of_length};
 ghost use Rattle.words.specs.Scales.{cut};
 
-fn wide(byte: u8) -> u64
-    ensures { result ≡ byte }
-{
-    byte as u64
-}
-
 // The code of up to eight bytes.
 fn packed(word: &[u8]) -> u64
     requires { length word.now ≤ 8 }
     ensures { result ≡ packed word.now }
 {
     let mut code = 0;
-    let mut i = 0;
-    while i < word.len() {
-        code = code * 256 + wide(word[i]);
-        i += 1;
+    for &byte in word {
+        code = code * 256 + u64::from(byte);
     }
     code
 }
@@ -52,6 +45,8 @@ fn only(code: u64, wanted: u64, number: u8) -> u8
 {
     if code == wanted { number } else { 0 }
 }
+
+// The keywords, a table for each length: in one, the function would be longer than 40 lines.
 
 // The keywords of four letters.
 fn key_4(code: u64) -> u8
@@ -243,27 +238,18 @@ pub fn edge_of(word: &[u8]) -> u8
     }
 }
 
-// The units of two letters.
-fn unit_2(code: u64) -> u8
-    ensures { result ≡ among (of_length 2 units) code 0 }
-{
-    match code {
-        0x6673 => 1, // fs
-        0x7073 => 4, // ps
-        0x6E73 => 7, // ns
-        0x7573 => 10, // us
-        0x6D73 => 13, // ms
-        _ => 0,
-    }
-}
-
 // The number of a unit, or 0.
+#[tactic(auto, using(crate::proofs::Lengths::unit_empty, crate::proofs::Lengths::unit_long, crate::proofs::Lengths::unit_other), unfolding(crate::specs::Words::unit_of))]
 pub fn unit_of(word: &[u8]) -> u8
     ensures { result ≡ unit_of word.now }
 {
-    match word.len() {
-        1 => only(packed(word), 0x73, 16), // s
-        2 => unit_2(packed(word)),
+    match word {
+        b"fs" => 1,
+        b"ps" => 4,
+        b"ns" => 7,
+        b"us" => 10,
+        b"ms" => 13,
+        b"s" => 16,
         _ => 0,
     }
 }
@@ -317,33 +303,25 @@ pub fn scale_of(word: &[u8]) -> u8
     ensures { result ≡ scale_of word.now }
 {
     let multiple = multiple_of(word);
-    if 1 <= multiple {
+    if multiple != 0 {
         return multiple;
     }
     let joined = joined_scale(word, 2);
-    if 1 <= joined {
-        return joined;
-    }
-    joined_scale(word, 1)
-}
-
-// The dividers, both of one byte.
-fn divider_1(code: u64) -> u8
-    ensures { result ≡ among (of_length 1 dividers) code 0 }
-{
-    match code {
-        0x2E => 1, // .
-        0x2F => 2, // /
-        _ => 0,
+    if joined != 0 {
+        joined
+    } else {
+        joined_scale(word, 1)
     }
 }
 
 // The number of a divider, or 0.
+#[tactic(auto, using(crate::proofs::Lengths::no_divider), unfolding(crate::specs::Words::divider_of))]
 pub fn divider_of(word: &[u8]) -> u8
     ensures { result ≡ divider_of word.now }
 {
-    match word.len() {
-        1 => divider_1(packed(word)),
+    match word {
+        b"." => 1,
+        b"/" => 2,
         _ => 0,
     }
 }

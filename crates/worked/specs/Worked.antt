@@ -1,10 +1,10 @@
 -- 'Prove one theorem over one table holding the eight numbers above, the four list rules and the listing's two IOPATH entries.'
 -- Assumes nothing.
-use Rattle.std.specs.Prelude.{ℕ, ◌^◌, ◌≡◌, refl, pos}
+use Rattle.std.specs.Prelude.{ℕ, ◌^◌, ◌≡◌, refl, pos, ℤ, Result, Ok, Err}
 use Prim.Native.String.{String}
 use mathlib.Core.List.{List, [], ◌∷◌, ◌++◌, map, head-eq_of_cons-eq, tail-eq_of_cons-eq}
-use Rattle.numbershape.specs.declared.Number.{Number}
-use Rattle.numbershape.specs.declared.Number.TheVariants.{Time, Fine, Beyond}
+use Rattle.numbershape.specs.declared.NotTime.{NotTime}
+use Rattle.numbershape.specs.declared.NotTime.TheVariants.{Fine, Beyond}
 use Rattle.times.specs.Worked.{in_signed, eight}
 use Rattle.history.specs.Sheet.{Triple, Entry}
 use Rattle.history.specs.Worked.{Case, cases, rows_of, listing}
@@ -12,12 +12,12 @@ use Rattle.history.specs.Worked as history
 
 -- a line of the table: a number as written, and what it is; or the entries of one cell, and the rows that they leave on an empty arc
 pub data Line : Type 0 where
-  number : String → Number → Line
+  number : String → Result ℤ NotTime → Line
   entries : List (Entry ℕ) → List Triple → Line
 
 -- what stands on either side
 pub data Side : Type 0 where
-  is : Number → Side
+  is : Result ℤ NotTime → Side
   leaves : List Triple → Side
 
 -- by the definitions that the contracts cite: `number_of` with no TIMESCALE, and `annotate`
@@ -32,14 +32,14 @@ written (entries l r) = leaves r
 -- 'With no TIMESCALE: `0.000001` is 1; `0.0000001` is refused 6; ..'
 abbrev pub numbers : List Line
 numbers =
-    number "0.000001" (Time (pos 1))
-    ∷ number "0.0000001" Fine
-    ∷ number "1.50e-5" (Time (pos 15))
-    ∷ number "15e-7" Fine
-    ∷ number "0e99" (Time (pos 0))
-    ∷ number "-0" (Time (pos 0))
-    ∷ number "1000000000" (Time (pos (10 ^ 15)))
-    ∷ number "1000000000.000001" Beyond
+    number "0.000001" (Ok (pos 1))
+    ∷ number "0.0000001" (Err Fine)
+    ∷ number "1.50e-5" (Ok (pos 15))
+    ∷ number "15e-7" (Err Fine)
+    ∷ number "0e99" (Ok (pos 0))
+    ∷ number "-0" (Ok (pos 0))
+    ∷ number "1000000000" (Ok (pos (10 ^ 15)))
+    ∷ number "1000000000.000001" (Err Beyond)
     ∷ []
 
 -- the list rules, and the listing's two entries

@@ -33,7 +33,7 @@ apply_cells-went-requires c =
         instances = s.instances;
         search = rw c.mark_arcs.ensures (arcs_ready c.args.start.now c.args.plan.instances c.args.plan.arcs
             c.args.plan.first _ s (search rules));
-        long = ap length c.copy_sheet.ensures;
+        long = ap length c.copy_from_slice.ensures.after;
       },
       rw c.mark_instances.ensures
           (instances_ready c.args.start.now c.args.plan.instances c.args.plan.arcs c.args.plan.first _ s (search rules)),
@@ -43,18 +43,18 @@ apply_cells-went-requires c =
       c.index_ends.ensures,
     )
 
-pub copy_sheet-requires-then-is_refusal : goal.copy_sheet-requires-then-is_refusal
-copy_sheet-requires-then-is_refusal c =
-    c.apply_cells-went.ensures.0 ∙ ap length c.copy_sheet.ensures
+pub copy_from_slice-requires-then-is_refusal : goal.copy_from_slice-requires-then-is_refusal
+copy_from_slice-requires-then-is_refusal c =
+    c.apply_cells-went.ensures.0 ∙ ap length c.copy_from_slice.ensures.after
 
 pub returns-then-is_refusal : goal.returns-then-is_refusal
 returns-then-is_refusal c =
-    λ y. rw c.copy_sheet-then-is_refusal.ensures (text-stop c.args.start.now y c.args.plan.instances c.args.plan.arcs c.args.plan.first c.requires.0
-    c.args.text.now c.args.plan.slash c.args.cells.now c.args.count c.args.entries.now c.apply_cells-went.new.out
-    c.apply_cells-went.result (sym c.is_refusal.ensures ∙ c.if-is_refusal.true) (rw c.copy_sheet.ensures at c.apply_cells-went.ensures.1) y)
+    λ y. rw c.copy_from_slice-then-is_refusal.ensures.after (text-stop c.args.start.now y c.args.plan.instances c.args.plan.arcs c.args.plan.first c.requires.0
+    c.args.read.text.now c.args.plan.slash c.args.read.cells.now c.args.count c.args.read.entries.now c.apply_cells-went.new.out
+    c.apply_cells-went.result (sym c.is_refusal.ensures ∙ c.if-is_refusal.true) (rw c.copy_from_slice.ensures.after at c.apply_cells-went.ensures.1) y)
 
 pub returns-else-is_refusal : goal.returns-else-is_refusal
 returns-else-is_refusal c =
-    λ y. text-done c.args.start.now y c.args.plan.instances c.args.plan.arcs c.args.plan.first c.requires.0 c.args.text.now
-    c.args.plan.slash c.args.cells.now c.args.count c.args.entries.now c.apply_cells-went.new.out c.apply_cells-went.result
-    (sym c.is_refusal.ensures ∙ c.if-is_refusal.false) (rw c.copy_sheet.ensures at c.apply_cells-went.ensures.1) y
+    λ y. text-done c.args.start.now y c.args.plan.instances c.args.plan.arcs c.args.plan.first c.requires.0 c.args.read.text.now
+    c.args.plan.slash c.args.read.cells.now c.args.count c.args.read.entries.now c.apply_cells-went.new.out c.apply_cells-went.result
+    (sym c.is_refusal.ensures ∙ c.if-is_refusal.false) (rw c.copy_from_slice.ensures.after at c.apply_cells-went.ensures.1) y

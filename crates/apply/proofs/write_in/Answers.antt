@@ -5,28 +5,30 @@ use Rattle.entryarcs.specs.Bytes.{found_written, written_in}
 use Rattle.entryarcs.specs.Turns.{found-whole}
 use Rattle.apply.proofs.write_in.Goals as goal
 
-pub returns-then-entry-eq-DEVICE : goal.returns-then-entry-eq-DEVICE
+pub returns-then-change-eq-DEVICE : goal.returns-then-change-eq-DEVICE
 unfolding written_in
-returns-then-entry-eq-DEVICE c =
-    rw (eq-eqb _ 4 c.if-entry-eq-DEVICE.true) c.device_write.ensures
+returns-then-change-eq-DEVICE c =
+    rw (eq-eqb _ 4 c.if-change-eq-DEVICE.true) c.device_write.ensures
 
-pub values_place-requires : goal.values_place-requires
-values_place-requires c =
-    found-whole c.args.start.now c.args.text.now c.args.plan.slash c.args.plan.arcs c.args.plan.first c.args.entry c.args.instance
-    c.in-At.arc c.requires.0.arcs (sym c.arc_of.ensures ∙ c.in-At.is)
+pub invariant_of-values : goal.invariant_of-values
+invariant_of-values c =
+    record {
+      whole = (found-whole c.args.start.sheet.now c.args.change.text.now c.args.start.plan.slash c.args.start.plan.arcs c.args.start.plan.first c.args.change.head c.args.instance
+          c.in-Some.arc c.requires.0.arcs (sym c.arc_of.ensures ∙ c.in-Some.is));
+    }
 
 pub write_arc-requires : goal.write_arc-requires
 write_arc-requires c =
-    let whole = found-whole c.args.start.now c.args.text.now c.args.plan.slash c.args.plan.arcs c.args.plan.first c.args.entry
-    c.args.instance c.in-At.arc c.requires.0.arcs (sym c.arc_of.ensures ∙ c.in-At.is) in
-    rw (c.values_place.ensures, c.requires.0.long) whole
+    let whole = found-whole c.args.start.sheet.now c.args.change.text.now c.args.start.plan.slash c.args.start.plan.arcs c.args.start.plan.first c.args.change.head
+    c.args.instance c.in-Some.arc c.requires.0.arcs (sym c.arc_of.ensures ∙ c.in-Some.is) in
+    rw (c.values-values.ensures, c.requires.0.long) whole
 
-pub returns-in-At : goal.returns-in-At
+pub returns-in-Some : goal.returns-in-Some
 unfolding written_in found_written
-returns-in-At c =
-    rw (ne_eqb _ 4 c.if-entry-eq-DEVICE.false, sym c.arc_of.ensures ∙ c.in-At.is) (c.write_arc.ensures ∙ rw c.values_place.ensures)
+returns-in-Some c =
+    rw (ne_eqb _ 4 c.if-change-eq-DEVICE.false, sym c.arc_of.ensures ∙ c.in-Some.is) (c.write_arc.ensures ∙ rw c.values-values.ensures)
 
-pub returns-in-Nothing : goal.returns-in-Nothing
+pub returns-in_default : goal.returns-in_default
 unfolding written_in found_written
-returns-in-Nothing c =
-    rw (ne_eqb _ 4 c.if-entry-eq-DEVICE.false, sym c.arc_of.ensures ∙ c.in-Nothing.is)
+returns-in_default c =
+    rw (ne_eqb _ 4 c.if-change-eq-DEVICE.false, sym c.arc_of.ensures ∙ c.in_default.is)

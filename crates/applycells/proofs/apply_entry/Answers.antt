@@ -1,5 +1,6 @@
 -- `applycells::apply_entry` meets its contract.
 use mathlib.Core.Path.{refl}
+use Rattle.meaning.specs.Amounts.{refused}
 use Rattle.meaning.specs.Entries.{rows_at, refusal_for, applied_for}
 use Rattle.applycells.proofs.apply_entry.Goals as goal
 
@@ -23,6 +24,6 @@ returns-in-Every c =
     rw (c.in-Every.is, ← c.head_at-entry.ensures, ← c.expand-rows.ensures) c.apply_typed.ensures
 
 pub returns-in-Nobody : goal.returns-in-Nobody
-unfolding refusal_for applied_for
+unfolding refusal_for applied_for refused
 returns-in-Nobody c =
     rw c.in-Nobody.is (refl, refl)

@@ -1,28 +1,32 @@
 -- `cells::body_turn` meets its contract: each way through it has its rule.
+use Rattle.std.proofs.Common.{sym}
+use Rattle.std.proofs.lemmas.Result.{err_from_is_err_and}
 use Rattle.rules.specs.Rules.{ahead}
 use Rattle.rules.specs.Bodies.{turn_stops, turn_shut, turn_wrong, turn_opens}
 use Rattle.cells.proofs.body_turn.Goals as goal
 
-pub returns-then-stopped : goal.returns-then-stopped
-returns-then-stopped c =
-    turn_stops c.args.text.now c.args.from c.look-seen.result.kind c.look-seen.result.start c.args.within c.args.some c.args.slash c.requires (c.look-seen.ensures.0 c.if-stopped.true)
+pub returns-in_err-token : goal.returns-in_err-token
+returns-in_err-token c = λ slash.
+    let p = err_from_is_err_and c.from_residual.result c.from_residual.ensures.1 in
+    let why = c.in_err-token.field-0.0 in
+    rw (p.1, p.2) (turn_stops c.args.text.now c.args.from why.number why.place c.args.within c.args.some slash c.requires (sym c.in_err-token.ensures))
 
-pub returns-then-kind-eq3 : goal.returns-then-kind-eq3
-returns-then-kind-eq3 c =
-    let g = c.look-seen.ensures.1 c.if-stopped.false in
-    rw c.shut.ensures (turn_shut c.args.text.now c.args.from c.look-seen.result.kind c.look-seen.result.start c.look-seen.result.end g.0 c.requires g.1 c.args.slash c.args.within c.args.some c.if-kind-eq3.true)
+pub returns-then-token-eq3 : goal.returns-then-token-eq3
+returns-then-token-eq3 c = λ slash.
+    let t = c.in_ok-token.token in
+    rw c.shut.ensures (turn_shut c.args.text.now c.args.from t.kind t.start t.end t.long c.requires (sym c.in_ok-token.ensures) slash c.args.within c.args.some c.if-token-eq3.true)
 
 pub open_turn-requires : goal.open_turn-requires
 open_turn-requires c =
-    let g = c.look-seen.ensures.1 c.if-stopped.false in
-    (ahead c.args.text.now c.args.from c.look-seen.result.kind c.look-seen.result.start c.look-seen.result.end g.0 c.requires g.1).1
+    let t = c.in_ok-token.token in
+    (ahead c.args.text.now c.args.from t.kind t.start t.end t.long c.requires (sym c.in_ok-token.ensures)).1
 
-pub returns-then-kind-eq2 : goal.returns-then-kind-eq2
-returns-then-kind-eq2 c =
-    let g = c.look-seen.ensures.1 c.if-stopped.false in
-    turn_opens c.args.text.now c.args.from c.look-seen.result.kind c.look-seen.result.start c.look-seen.result.end g.0 c.requires g.1 c.args.slash c.args.within c.args.some c.open_turn.result c.if-kind-eq2.true c.open_turn.ensures
+pub returns-then-token-eq2 : goal.returns-then-token-eq2
+returns-then-token-eq2 c = λ slash.
+    let t = c.in_ok-token.token in
+    turn_opens c.args.text.now c.args.from t.kind t.start t.end t.long c.requires (sym c.in_ok-token.ensures) slash c.args.within c.args.some c.open_turn.result c.if-token-eq2.true (c.open_turn.ensures slash)
 
 pub returns : goal.returns
-returns c =
-    let g = c.look-seen.ensures.1 c.if-stopped.false in
-    turn_wrong c.args.text.now c.args.from c.look-seen.result.kind c.look-seen.result.start c.look-seen.result.end g.0 c.requires g.1 c.args.slash c.args.within c.args.some c.if-kind-eq3.false c.if-kind-eq2.false
+returns c = λ slash.
+    let t = c.in_ok-token.token in
+    turn_wrong c.args.text.now c.args.from t.kind t.start t.end t.long c.requires (sym c.in_ok-token.ensures) slash c.args.within c.args.some c.if-token-eq3.false c.if-token-eq2.false

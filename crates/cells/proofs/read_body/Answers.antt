@@ -1,97 +1,92 @@
 -- `cells::read_body` meets its contract: these entries have been read, and their rows written where the table is filled.
-use Prim.Native.Nat.{◌+◌, ◌-◌}
-use mathlib.Core.Path.{refl, sym, ◌∙◌, ap}
-use mathlib.Core.List.{[], ◌∷◌, ◌++◌}
-use native.Mathlib.Omega.{arith}
-use lib.ListN.{take, length-append}
-use Rattle.grammar.specs.declared.Status.TheVariants as status
-use Rattle.rules.specs.Promises.{Listable, item}
+use Rattle.std.proofs.Common.{Ok, ◌+◌, ◌-◌, refl, sym, ◌∙◌, ap, [], ◌∷◌, ◌++◌, arith, take, length-append}
+use Rattle.std.proofs.lemmas.Result.{err_from_is_err_and}
 use Rattle.grammar.specs.declared.Turn.TheVariants as turn
+use Rattle.grammar.specs.Meaning.{no_head}
+use Rattle.rules.specs.Promises.{Listable, item}
 use Rattle.rules.specs.Bodies.{Turned, item_place}
 use Rattle.cells.specs.Cells.{along-start, along_on, along-done, along-not, along_bad, along-entry, filled_none, filled_on}
 use Rattle.cells.proofs.read_body.Goals as goal
 
-pub loop-number-init : goal.loop-number-init
-loop-number-init c =
+pub loop-end-init : goal.loop-end-init
+loop-end-init c =
     ([], refl, omega arith, c.requires.0, along-start c.args.text.now c.args.from c.args.slash c.args.unit c.args.room, omega arith, sym (filled_none c.args.fill c.args.entries.now c.args.row), refl)
 
-pub body_turn-t-requires : goal.body_turn-t-requires
-body_turn-t-requires c =
-    c.loop-number.invariant.3
+pub body_turn-requires : goal.body_turn-requires
+body_turn-requires c = c.loop-end.invariant.3
 
-pub shape_of-entries-in-Refused : goal.shape_of-entries-in-Refused
-shape_of-entries-in-Refused c =
-    c.loop-number.invariant.7
-
-pub returns-in-Refused : goal.returns-in-Refused
-returns-in-Refused c =
-    let u : Turned c.args.text.now c.loop-number.p c.loop-number.within c.loop-number.some c.args.slash (turn.Refused c.in-Refused.number c.in-Refused.place) = rw c.in-Refused.is at c.body_turn-t.ensures in
-    (along-not c.args.text.now c.args.from c.args.slash c.args.unit c.args.room c.loop-number.p c.loop-number.n c.loop-number.within c.loop-number.some c.loop-number.invariant.0 c.loop-number.invariant.4 c.in-Refused.number c.in-Refused.place u, λ f. c.loop-number.invariant.6 ∙ rw f)
-
-pub shape_of-entries-in-Done : goal.shape_of-entries-in-Done
-shape_of-entries-in-Done c =
-    c.loop-number.invariant.7
+pub returns-in_err-end : goal.returns-in_err-end
+returns-in_err-end c =
+    let p = err_from_is_err_and c.from_residual.result c.from_residual.ensures.1 in
+    let why = c.in_err-end.field-0.0 in
+    rw (p.1, p.2)
+    (along-not c.args.text.now c.args.from c.args.slash c.args.unit c.args.room c.loop-end.p c.loop-end.n c.loop-end.within c.loop-end.some c.loop-end.invariant.0 c.loop-end.invariant.4 why.number why.place (c.in_err-end.ensures c.args.slash), λ f. c.loop-end.invariant.6 ∙ rw f)
 
 pub returns-in-Done : goal.returns-in-Done
 returns-in-Done c =
-    let u : Turned c.args.text.now c.loop-number.p c.loop-number.within c.loop-number.some c.args.slash (turn.Done c.in-Done.end) = rw c.in-Done.is at c.body_turn-t.ensures in
-    (c.loop-number.invariant.0, c.loop-number.invariant.1, along-done c.args.text.now c.args.from c.args.slash c.args.unit c.args.room c.loop-number.p c.loop-number.n c.loop-number.within c.loop-number.some c.loop-number.invariant.0 c.loop-number.invariant.4 c.in-Done.end u, c.loop-number.invariant.2, omega (arith, u.1.0, c.loop-number.invariant.5), u.1.1, c.loop-number.invariant.6)
+    let u : Turned c.args.text.now c.loop-end.p c.loop-end.within c.loop-end.some c.args.slash (Ok (turn.Done c.in-Done.end)) = rw c.in-Done.is at (c.in_ok-end.ensures c.args.slash) in (
+      c.loop-end.invariant.0,
+      c.loop-end.invariant.1,
+      along-done c.args.text.now c.args.from c.args.slash c.args.unit c.args.room c.loop-end.p c.loop-end.n c.loop-end.within c.loop-end.some c.loop-end.invariant.0 c.loop-end.invariant.4 c.in-Done.end u,
+      c.loop-end.invariant.2,
+      omega (arith, u.1.0, c.loop-end.invariant.5),
+      u.1.1,
+      c.loop-end.invariant.6,
+    )
 
-pub loop-number-smaller-in-On : goal.loop-number-smaller-in-On
-loop-number-smaller-in-On c =
-    let u : Turned c.args.text.now c.loop-number.p c.loop-number.within c.loop-number.some c.args.slash (turn.On c.in-On.w c.in-On.f c.in-On.q) = rw c.in-On.is at c.body_turn-t.ensures in
+pub loop-end-smaller-in-On : goal.loop-end-smaller-in-On
+loop-end-smaller-in-On c =
+    let u : Turned c.args.text.now c.loop-end.p c.loop-end.within c.loop-end.some c.args.slash (Ok (turn.On c.in-On.w c.in-On.f c.in-On.q)) = rw c.in-On.is at (c.in_ok-end.ensures c.args.slash) in
     omega (arith, u.1.0, u.1.1)
 
-pub loop-number-preserved-in-On : goal.loop-number-preserved-in-On
-loop-number-preserved-in-On c =
-    let u : Turned c.args.text.now c.loop-number.p c.loop-number.within c.loop-number.some c.args.slash (turn.On c.in-On.w c.in-On.f c.in-On.q) = rw c.in-On.is at c.body_turn-t.ensures in
-    (c.loop-number.invariant.0, c.loop-number.invariant.1, c.loop-number.invariant.2, u.1.1, along_on c.args.text.now c.args.from c.args.slash c.args.unit c.args.room c.loop-number.p c.loop-number.n c.loop-number.within c.loop-number.some c.loop-number.invariant.0 c.loop-number.invariant.4 c.in-On.w c.in-On.f c.in-On.q u, omega (arith, u.1.0, c.loop-number.invariant.5), c.loop-number.invariant.6, c.loop-number.invariant.7)
+pub loop-end-preserved-in-On : goal.loop-end-preserved-in-On
+loop-end-preserved-in-On c =
+    let u : Turned c.args.text.now c.loop-end.p c.loop-end.within c.loop-end.some c.args.slash (Ok (turn.On c.in-On.w c.in-On.f c.in-On.q)) = rw c.in-On.is at (c.in_ok-end.ensures c.args.slash) in (
+      c.loop-end.invariant.0,
+      c.loop-end.invariant.1,
+      c.loop-end.invariant.2,
+      u.1.1,
+      along_on c.args.text.now c.args.from c.args.slash c.args.unit c.args.room c.loop-end.p c.loop-end.n c.loop-end.within c.loop-end.some c.loop-end.invariant.0 c.loop-end.invariant.4 c.in-On.w c.in-On.f c.in-On.q u,
+      omega (arith, u.1.0, c.loop-end.invariant.5),
+      c.loop-end.invariant.6,
+      c.loop-end.invariant.7,
+    )
 
 pub overflow_sub-room : goal.overflow_sub-room
-overflow_sub-room c =
-    c.loop-number.invariant.2
+overflow_sub-room c = c.loop-end.invariant.2
 
-pub read_entry-e-requires : goal.read_entry-e-requires
-read_entry-e-requires c =
-    let u : Turned c.args.text.now c.loop-number.p c.loop-number.within c.loop-number.some c.args.slash (turn.Entry c.in-Entry.q) = rw c.in-Entry.is at c.body_turn-t.ensures in
+pub read_entry-requires : goal.read_entry-requires
+read_entry-requires c =
+    let u : Turned c.args.text.now c.loop-end.p c.loop-end.within c.loop-end.some c.args.slash (Ok (turn.Entry c.in-Entry.q)) = rw c.in-Entry.is at (c.in_ok-end.ensures c.args.slash) in
     u.1.1
 
-pub shape_of-entries-in-Refused-status : goal.shape_of-entries-in-Refused-status
-shape_of-entries-in-Refused-status c =
-    c.loop-number.invariant.7
+pub returns-in_err-entry-in-Entry : goal.returns-in_err-entry-in-Entry
+returns-in_err-entry-in-Entry c =
+    let u : Turned c.args.text.now c.loop-end.p c.loop-end.within c.loop-end.some c.args.slash (Ok (turn.Entry c.in-Entry.q)) = rw c.in-Entry.is at (c.in_ok-end.ensures c.args.slash) in
+    let p = err_from_is_err_and c.from_residual-in_err-entry-in-Entry.result c.from_residual-in_err-entry-in-Entry.ensures.1 in
+    let why = c.in_err-entry-in-Entry.field-0.0 in
+    rw (p.1, p.2)
+    (along_bad c.args.text.now c.args.from c.args.slash c.args.unit c.args.room c.loop-end.p c.loop-end.n c.loop-end.within c.loop-end.some c.loop-end.invariant.0 c.loop-end.invariant.4 c.in-Entry.q u why.number why.place no_head [] c.in_err-entry-in-Entry.ensures, λ f. c.loop-end.invariant.6 ∙ rw f)
 
-pub returns-in-Refused-status : goal.returns-in-Refused-status
-returns-in-Refused-status c =
-    let u : Turned c.args.text.now c.loop-number.p c.loop-number.within c.loop-number.some c.args.slash (turn.Entry c.in-Entry.q) = rw c.in-Entry.is at c.body_turn-t.ensures in
-    let e' : Listable c.args.text.now c.in-Entry.q (item_place c.loop-number.within c.args.slash) c.args.slash c.args.unit (c.args.room - c.loop-number.n) (status.Refused c.in-Refused-status.number c.in-Refused-status.place) c.read_entry-e.result.entry (take c.read_entry-e.result.count c.read_entry-e.result.list) = rw c.in-Refused-status.is at c.read_entry-e.ensures.0 in
-    (along_bad c.args.text.now c.args.from c.args.slash c.args.unit c.args.room c.loop-number.p c.loop-number.n c.loop-number.within c.loop-number.some c.loop-number.invariant.0 c.loop-number.invariant.4 c.in-Entry.q u c.in-Refused-status.number c.in-Refused-status.place c.read_entry-e.result.entry (take c.read_entry-e.result.count c.read_entry-e.result.list) e', λ f. c.loop-number.invariant.6 ∙ rw f)
+pub loop-end-smaller : goal.loop-end-smaller
+loop-end-smaller c =
+    let u : Turned c.args.text.now c.loop-end.p c.loop-end.within c.loop-end.some c.args.slash (Ok (turn.Entry c.in-Entry.q)) = rw c.in-Entry.is at (c.in_ok-end.ensures c.args.slash) in
+    let e = c.in_ok-entry-in-Entry.entry in
+    let l : Listable c.args.text.now c.in-Entry.q (item_place c.loop-end.within c.args.slash) c.args.slash c.args.unit (c.args.room - c.loop-end.n) (Ok e.values.end) e.entry (take e.values.count e.values.list) = c.in_ok-entry-in-Entry.ensures in
+    omega (arith, u.1.0, l.1, l.2)
 
-pub note_entry-requires : goal.note_entry-requires
-note_entry-requires c =
-    let e' : Listable c.args.text.now c.in-Entry.q (item_place c.loop-number.within c.args.slash) c.args.slash c.args.unit (c.args.room - c.loop-number.n) (status.Done c.in-Done-status.end) c.read_entry-e.result.entry (take c.read_entry-e.result.count c.read_entry-e.result.list) = rw c.in-Done-status.is at c.read_entry-e.ensures.0 in
-    (omega (arith, e'.3, c.loop-number.invariant.2, c.requires.1, c.loop-number.invariant.7), c.read_entry-e.ensures.1)
-
-pub overflow_add-n : goal.overflow_add-n
-overflow_add-n c =
-    let e' : Listable c.args.text.now c.in-Entry.q (item_place c.loop-number.within c.args.slash) c.args.slash c.args.unit (c.args.room - c.loop-number.n) (status.Done c.in-Done-status.end) c.read_entry-e.result.entry (take c.read_entry-e.result.count c.read_entry-e.result.list) = rw c.in-Done-status.is at c.read_entry-e.ensures.0 in
-    omega (arith, e'.3, c.loop-number.invariant.2, c.requires.1)
-
-pub loop-number-smaller : goal.loop-number-smaller
-loop-number-smaller c =
-    let u : Turned c.args.text.now c.loop-number.p c.loop-number.within c.loop-number.some c.args.slash (turn.Entry c.in-Entry.q) = rw c.in-Entry.is at c.body_turn-t.ensures in
-    let e' : Listable c.args.text.now c.in-Entry.q (item_place c.loop-number.within c.args.slash) c.args.slash c.args.unit (c.args.room - c.loop-number.n) (status.Done c.in-Done-status.end) c.read_entry-e.result.entry (take c.read_entry-e.result.count c.read_entry-e.result.list) = rw c.in-Done-status.is at c.read_entry-e.ensures.0 in
-    omega (arith, u.1.0, e'.1, e'.2)
-
-pub loop-number-preserved : goal.loop-number-preserved
-loop-number-preserved c =
-    let u : Turned c.args.text.now c.loop-number.p c.loop-number.within c.loop-number.some c.args.slash (turn.Entry c.in-Entry.q) = rw c.in-Entry.is at c.body_turn-t.ensures in
-    let e' : Listable c.args.text.now c.in-Entry.q (item_place c.loop-number.within c.args.slash) c.args.slash c.args.unit (c.args.room - c.loop-number.n) (status.Done c.in-Done-status.end) c.read_entry-e.result.entry (take c.read_entry-e.result.count c.read_entry-e.result.list) = rw c.in-Done-status.is at c.read_entry-e.ensures.0 in (
-      c.loop-number.invariant.0 ++ (item c.read_entry-e.result.entry (take c.read_entry-e.result.count c.read_entry-e.result.list)) ∷ [],
-      length-append c.loop-number.invariant.0 ((item c.read_entry-e.result.entry (take c.read_entry-e.result.count c.read_entry-e.result.list)) ∷ []) ∙ ap (λ z. z + 1) c.loop-number.invariant.1,
-      omega (arith, e'.3, c.loop-number.invariant.2),
-      e'.2,
-      along-entry c.args.text.now c.args.from c.args.slash c.args.unit c.args.room c.loop-number.p c.loop-number.n c.loop-number.within c.loop-number.some c.loop-number.invariant.0 c.loop-number.invariant.4 c.in-Entry.q u c.in-Done-status.end c.read_entry-e.result.entry (take c.read_entry-e.result.count c.read_entry-e.result.list) e',
-      omega (arith, u.1.0, e'.1, c.loop-number.invariant.5),
-      c.note_entry.ensures ∙ rw c.loop-number.invariant.6 (filled_on c.args.fill c.args.entries.now c.args.row c.loop-number.n c.loop-number.invariant.0 (item c.read_entry-e.result.entry (take c.read_entry-e.result.count c.read_entry-e.result.list)) c.loop-number.invariant.1 (omega (arith, e'.3, c.loop-number.invariant.2, c.requires.1))),
-      c.note_entry.auto.entries ∙ c.loop-number.invariant.7,
+pub loop-end-preserved : goal.loop-end-preserved
+loop-end-preserved c =
+    let u : Turned c.args.text.now c.loop-end.p c.loop-end.within c.loop-end.some c.args.slash (Ok (turn.Entry c.in-Entry.q)) = rw c.in-Entry.is at (c.in_ok-end.ensures c.args.slash) in
+    let e = c.in_ok-entry-in-Entry.entry in
+    let l : Listable c.args.text.now c.in-Entry.q (item_place c.loop-end.within c.args.slash) c.args.slash c.args.unit (c.args.room - c.loop-end.n) (Ok e.values.end) e.entry (take e.values.count e.values.list) = c.in_ok-entry-in-Entry.ensures in
+    let i = item e.entry (take e.values.count e.values.list) in (
+      c.loop-end.invariant.0 ++ i ∷ [],
+      length-append c.loop-end.invariant.0 (i ∷ []) ∙ ap (λ z. z + 1) c.loop-end.invariant.1,
+      omega (arith, l.3, c.loop-end.invariant.2),
+      l.2,
+      along-entry c.args.text.now c.args.from c.args.slash c.args.unit c.args.room c.loop-end.p c.loop-end.n c.loop-end.within c.loop-end.some c.loop-end.invariant.0 c.loop-end.invariant.4 c.in-Entry.q u e.values.end e.entry (take e.values.count e.values.list) l,
+      omega (arith, u.1.0, l.1, c.loop-end.invariant.5),
+      c.note_entry.ensures ∙ rw c.loop-end.invariant.6 (filled_on c.args.fill c.args.entries.now c.args.row c.loop-end.n c.loop-end.invariant.0 i c.loop-end.invariant.1 (omega (arith, l.3, c.loop-end.invariant.2, c.requires.1))),
+      c.note_entry.auto.entries ∙ c.loop-end.invariant.7,
     )

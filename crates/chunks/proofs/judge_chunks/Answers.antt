@@ -1,44 +1,40 @@
 -- `chunks::judge_chunks` meets its contract. Invariant: the least fault of the first j arcs is known.
-use mathlib.Core.Path.{◌≡◌, refl, sym, ◌∙◌}
+use mathlib.Core.Path.{refl, ◌∙◌}
 use native.Mathlib.Omega.{arith}
-use borrow.Author.Rules.{rules}
-use Rattle.sheetlaws.specs.Sheet.{place, nth}
+use Rattle.sheetlaws.specs.Sheet.{nth}
 use Rattle.touchseats.specs.Laws.{chosen_order}
-use Rattle.swaparcs.proofs.ArcLaws.{arcs_none, arcs_end}
-use Rattle.chunks.specs.Chunks.{part-judged}
+use Rattle.swaparcs.proofs.ArcLaws.{arcs_none}
+use Rattle.chunks.specs.Chunks.{part_long, part_chosen, part-judged}
 use Rattle.chunks.proofs.judge_chunks.Goals as goal
 
 pub loop-j-init : goal.loop-j-init
 unfolding nth
 loop-j-init c =
-    (omega arith, refl, c.requires.3, c.requires.4, arcs_none c.args.start.now c.args.plan.instances c.args.plan.arcs c.args.plan.first c.args.file.now c.args.incoming.now c.args.plan.slash c.args.cells.now c.args.entries.now c.args.cells2.now c.args.entries2.now c.args.swap c.args.leaver c.args.leavertype.now c.args.comer c.args.comertype.now c.args.own)
-
-pub choose-chosen-requires : goal.choose-chosen-requires
-choose-chosen-requires c =
-    (c.requires.0.arcs.good, c.loop-j.invariant.0, c.loop-j.invariant.1, c.requires.2, search rules)
+    let w = c.args.swapping in
+    let s = w.searched in
+    (omega arith, refl, c.requires.3, c.requires.4, arcs_none s.start.now s.plan.instances s.plan.arcs s.plan.first w.file.now w.incoming.now s.plan.slash w.cells.now w.entries.now w.cells2.now w.entries2.now w.swap w.leaver w.leavertype.now w.comer w.comertype.now c.args.own)
 
 pub run_chunk-fault-requires : goal.run_chunk-fault-requires
 run_chunk-fault-requires c =
-    (c.requires.0, chosen_order c.args.start.now c.args.plan.arcs c.args.plan.first c.args.bits.now c.loop-j.j c.choose-chosen.result.count c.choose-chosen.result.next c.choose-chosen.result.place c.choose-chosen.new.arcs c.choose-chosen.ensures.1, c.choose-chosen.ensures.1.6, c.loop-j.invariant.2, c.loop-j.invariant.3)
-
-pub loop-j-smaller : goal.loop-j-smaller
-loop-j-smaller c =
-    let p = c.choose-chosen.ensures.1.3 c.loop-j-test.true in
-    omega (arith, c.choose-chosen.ensures.1.1, c.choose-chosen.ensures.1.2, p)
+    let w = c.args.swapping in
+    let s = w.searched in
+    let h = c.choose-chosen.result in
+    let long = part_long h.count c.choose-chosen.new.arcs (omega (arith, c.choose-chosen.ensures.0, c.choose-chosen.ensures.1.6)) in
+    let chose = part_chosen s.start.now s.plan.arcs s.plan.first c.args.bits.now c.loop-j.j h.count h.next h.place c.choose-chosen.new.arcs c.choose-chosen.ensures.1 in
+    (c.requires.0, (rw long (chosen_order s.start.now s.plan.arcs s.plan.first c.args.bits.now c.loop-j.j h.count h.next h.place _ chose)), omega (arith, long, c.choose-chosen.ensures.1.6, c.loop-j.invariant.2), omega (arith, long, c.choose-chosen.ensures.1.6, c.loop-j.invariant.3))
 
 pub loop-j-preserved : goal.loop-j-preserved
 loop-j-preserved c =
-    (c.choose-chosen.ensures.1.2, c.choose-chosen.ensures.1.4, c.run_chunk-fault.ensures.0, c.run_chunk-fault.ensures.1, rw c.better-best.ensures (part-judged c.args.start.now c.args.plan.instances c.args.plan.arcs c.args.plan.first c.args.file.now c.args.incoming.now c.args.plan.slash c.args.cells.now c.args.entries.now c.args.cells2.now c.args.entries2.now c.args.swap c.args.leaver c.args.leavertype.now c.args.comer c.args.comertype.now c.requires.0.ready c.args.bits.now c.requires.1 c.loop-j.j c.choose-chosen.result.count c.choose-chosen.result.next c.choose-chosen.result.place c.choose-chosen.new.arcs c.run_chunk-fault.new.flags c.run_chunk-fault.new.states c.choose-chosen.ensures.1 c.run_chunk-fault.ensures.2 c.run_chunk-fault.result c.run_chunk-fault.ensures.3 c.args.own c.loop-j.best c.loop-j.invariant.4))
-
-pub shape_of-flags : goal.shape_of-flags
-shape_of-flags c =
-    c.loop-j.invariant.2 ∙ sym c.requires.3
-
-pub shape_of-states : goal.shape_of-states
-shape_of-states c =
-    c.loop-j.invariant.3 ∙ sym c.requires.4
-
-pub returns : goal.returns
-returns c =
-    let e : c.loop-j.j ≡ c.args.plan.arcs = omega (arith, c.loop-j.invariant.0, c.loop-j-test.false) in
-    (c.loop-j.invariant.2, c.loop-j.invariant.3, arcs_end c.args.start.now c.args.plan.instances c.args.plan.arcs c.args.plan.first c.args.file.now c.args.incoming.now c.args.plan.slash c.args.cells.now c.args.entries.now c.args.cells2.now c.args.entries2.now c.args.swap c.args.leaver c.args.leavertype.now c.args.comer c.args.comertype.now c.args.own c.loop-j.best (rw e at c.loop-j.invariant.4))
+    let w = c.args.swapping in
+    let s = w.searched in
+    let h = c.choose-chosen.result in
+    let long = part_long h.count c.choose-chosen.new.arcs (omega (arith, c.choose-chosen.ensures.0, c.choose-chosen.ensures.1.6)) in
+    let chose = part_chosen s.start.now s.plan.arcs s.plan.first c.args.bits.now c.loop-j.j h.count h.next h.place c.choose-chosen.new.arcs c.choose-chosen.ensures.1 in (
+      chose.2,
+      chose.4,
+      c.run_chunk-fault.ensures.0 ∙ c.loop-j.invariant.2,
+      c.run_chunk-fault.ensures.1 ∙ c.loop-j.invariant.3,
+      rw c.better-best.ensures (part-judged s.start.now s.plan.instances s.plan.arcs s.plan.first w.file.now w.incoming.now s.plan.slash w.cells.now w.entries.now w.cells2.now w.entries2.now w.swap w.leaver w.leavertype.now w.comer w.comertype.now c.requires.0.ready c.args.bits.now c.requires.1 c.loop-j.j h.count h.next h.place _
+          c.run_chunk-fault.new.flags c.run_chunk-fault.new.states chose (rw long at c.run_chunk-fault.ensures.2) c.run_chunk-fault.result
+          (rw long at c.run_chunk-fault.ensures.3) c.args.own c.loop-j.best c.loop-j.invariant.4),
+    )

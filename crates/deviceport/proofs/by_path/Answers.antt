@@ -10,9 +10,9 @@ returns-then-entry-eq0 c = rw (eq-eqb _ 0 c.if-entry-eq0.true)
 pub returns-then-open_end : goal.returns-then-open_end
 unfolding by_path
 returns-then-open_end c =
-    rw (ne_eqb _ 0 c.if-entry-eq0.false, ← c.instance_path.ensures, ← c.open_end.ensures, c.if-open_end.true, ← c.part_of.ensures) c.plain_port.ensures
+    rw (ne_eqb _ 0 c.if-entry-eq0.false, ← c.path.ensures, ← c.open_end.ensures, c.if-open_end.true, ← c.part_of.ensures) c.plain_port.ensures
 
 pub returns : goal.returns
 unfolding by_path
 returns c =
-    rw (ne_eqb _ 0 c.if-entry-eq0.false, ← c.instance_path.ensures, ← c.open_end.ensures, c.if-open_end.false)
+    rw (ne_eqb _ 0 c.if-entry-eq0.false, ← c.path.ensures, ← c.open_end.ensures, c.if-open_end.false)

@@ -12,9 +12,9 @@ use Rattle.devices.proofs.write_chained.Given as goal
 
 abbrev pub invariant-loop-k : goal.invariant-loop-k
 invariant-loop-k l =
-    OnChain (end_bucket l.start l.plan.first) l.plan.arcs (bucket_of (path_at l.start l.instance)) l.k
-    × (l.out ≡ written_of (hits l.start l.text l.plan.slash l.plan.first l.entry l.instance) (writes l.start l.plan.first l.entry l.rows) l.initial.out l.k)
+    OnChain (end_bucket l.start.sheet.now l.start.plan.first) l.start.plan.arcs (bucket_of (path_at l.start.sheet.now l.instance)) l.k
+    × (l.out ≡ written_of (hits l.start.sheet.now l.change.text.now l.start.plan.slash l.start.plan.first l.change.head l.instance) (writes l.start.sheet.now l.start.plan.first l.change.head l.change.rows) l.initial.out l.k)
     × (length l.out ≡ length l.initial.out)
 
 abbrev pub decreases-loop-k : goal.decreases-loop-k
-decreases-loop-k l = l.plan.arcs - l.k
+decreases-loop-k l = l.start.plan.arcs - l.k

@@ -6,4 +6,4 @@ use Rattle.entryarcs.proofs.arc_of.Goals as goal
 pub returns : goal.returns
 unfolding arc_of
 returns c =
-    c.find_arc.ensures ∙ rw (c.instance_path-path.ensures, c.part_of-name.ensures, c.part_of-name2.ensures)
+    c.find_arc.ensures ∙ rw (c.path.ensures, c.part_of.ensures, c.part_of-2.ensures)

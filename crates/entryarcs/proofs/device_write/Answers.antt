@@ -9,57 +9,55 @@ use Rattle.entryarcs.proofs.device_write.Goals.{then-device_hit, else-device_hit
 
 pub loop-k-init : goal.loop-k-init
 unfolding nth written_of
-loop-k-init c = (omega arith, refl, refl, refl)
+loop-k-init c = (refl, refl, refl)
 
 pub device_hit-requires : goal.device_hit-requires
 device_hit-requires c = (
   c.requires.there,
-  arc-whole c.args.start.now c.loop-k.k c.args.plan.first c.loop-k.here c.args.plan.arcs c.requires.arcs (omega arith) c.loop-k.invariant.1,
+  arc-whole c.args.start.sheet.now c.loop-k.k c.args.start.plan.first c.loop-k.here c.args.start.plan.arcs c.requires.arcs (omega arith) c.loop-k.invariant.0,
 )
 
-pub values_place-values-requires : goal.values_place-values-requires
-values_place-values-requires c =
-    arc-whole c.args.start.now c.loop-k.k c.args.plan.first c.loop-k.here c.args.plan.arcs c.requires.arcs (omega arith) c.loop-k.invariant.1
+pub invariant_of-values : goal.invariant_of-values
+invariant_of-values c =
+    record { whole = (arc-whole c.args.start.sheet.now c.loop-k.k c.args.start.plan.first c.loop-k.here c.args.start.plan.arcs c.requires.arcs (omega arith) c.loop-k.invariant.0) }
 
 pub write_arc-requires : goal.write_arc-requires
 write_arc-requires c =
-    let whole = arc-whole c.args.start.now c.loop-k.k c.args.plan.first c.loop-k.here c.args.plan.arcs c.requires.arcs (omega arith)
-    c.loop-k.invariant.1 in
-    rw (c.values_place-values.ensures, c.loop-k.invariant.3, c.requires.long) whole
+    let whole = arc-whole c.args.start.sheet.now c.loop-k.k c.args.start.plan.first c.loop-k.here c.args.start.plan.arcs c.requires.arcs (omega arith)
+    c.loop-k.invariant.0 in
+    rw (c.values-values.ensures, c.loop-k.invariant.2, c.requires.long) whole
 
-pub next_arc-here-requires : goal.next_arc-here-requires
-next_arc-here-requires c =
-    arc-whole c.args.start.now c.loop-k.k c.args.plan.first c.loop-k.here c.args.plan.arcs c.requires.arcs (omega arith) c.loop-k.invariant.1
+pub invariant_of-next : goal.invariant_of-next
+invariant_of-next c =
+    record { whole = (arc-whole c.args.start.sheet.now c.loop-k.k c.args.start.plan.first c.loop-k.here c.args.start.plan.arcs c.requires.arcs (omega arith) c.loop-k.invariant.0) }
 
 pub loop-k-preserved : goal.loop-k-preserved
 loop-k-preserved c =
-    let test = hits c.args.start.now c.args.text.now c.args.plan.slash c.args.plan.first c.args.entry c.args.instance in
-    let write = writes c.args.start.now c.args.plan.first c.args.entry c.args.rows in
-    let hit = hit-is c.args.start.now c.args.text.now c.args.plan.slash c.args.plan.first c.args.entry c.args.instance c.loop-k.k c.loop-k.here _ c.loop-k.invariant.1
+    let test = hits c.args.start.sheet.now c.args.change.text.now c.args.start.plan.slash c.args.start.plan.first c.args.change.head c.args.instance in
+    let write = writes c.args.start.sheet.now c.args.start.plan.first c.args.change.head c.args.change.rows in
+    let hit = hit-is c.args.start.sheet.now c.args.change.text.now c.args.start.plan.slash c.args.start.plan.first c.args.change.head c.args.instance c.loop-k.k c.loop-k.here _ c.loop-k.invariant.0
     c.device_hit.ensures in
-    let next = arc-more c.args.start.now c.loop-k.k c.args.plan.first c.loop-k.here _ c.loop-k.invariant.1 c.next_arc-here.ensures in
+    let next = arc-more c.args.start.sheet.now c.loop-k.k c.args.start.plan.first c.loop-k.here _ c.loop-k.invariant.0 c.next-here.ensures in
     elim c.if-device_hit.branch [
       | then-device_hit w ↦ (
-        omega arith,
         next,
-        written_with test c.loop-k.k write c.args.out.now _ c.loop-k.out (hit ∙ w.if-device_hit.true) c.loop-k.invariant.2
-            (w.out-is ∙ w.write_arc.ensures ∙ rw (w.values_place-values.ensures, c.loop-k.invariant.1)),
-        c.if-device_hit.auto.out ∙ c.loop-k.invariant.3,
+        written_with test c.loop-k.k write c.args.out.now _ c.loop-k.out (hit ∙ w.if-device_hit.true) c.loop-k.invariant.1
+            (w.out-is ∙ w.write_arc.ensures ∙ rw (w.values-values.ensures, c.loop-k.invariant.0)),
+        c.if-device_hit.auto.out ∙ c.loop-k.invariant.2,
       )
       | else-device_hit w ↦ (
-        omega arith,
         next,
-        written_without test c.loop-k.k write c.args.out.now _ (hit ∙ w.if-device_hit.false) (w.out-is ∙ c.loop-k.invariant.2),
-        c.if-device_hit.auto.out ∙ c.loop-k.invariant.3,
+        written_without test c.loop-k.k write c.args.out.now _ (hit ∙ w.if-device_hit.false) (w.out-is ∙ c.loop-k.invariant.1),
+        c.if-device_hit.auto.out ∙ c.loop-k.invariant.2,
       )
     ]
 
 pub shape_of-out : goal.shape_of-out
 shape_of-out c =
-    c.loop-k.invariant.3
+    c.loop-k.invariant.2
 
 pub returns : goal.returns
 unfolding device_written
 returns c =
-    let e : c.loop-k.k ≡ c.args.plan.arcs = omega arith in
-    rw (← e) c.loop-k.invariant.2
+    let e : c.loop-k.k ≡ c.args.start.plan.arcs = omega arith in
+    rw (← e) c.loop-k.invariant.1

@@ -3,4 +3,4 @@ use Rattle.entryarcs.proofs.is_of.Goals as goal
 
 pub returns : goal.returns
 returns c =
-    rw (← c.instance_type-own.ensures) c.same_text.ensures
+    rw (← c.type_name-own.ensures) c.same_text.ensures

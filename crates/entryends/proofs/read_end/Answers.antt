@@ -1,24 +1,38 @@
 -- `entryends::read_end` meets its contract: each way through it has its rule.
-use mathlib.Core.Path.{sym, ◌∙◌}
-use Rattle.rules.specs.Rules.{ahead, end_stops, end_plain, end_not, end_edged, port-judged}
+use Rattle.std.proofs.Common.{Ok, Err}
+use Rattle.std.proofs.lemmas.Result.{err_from_is_err_and}
+use Rattle.rules.specs.Rules.{ahead, end_stops, end_plain, end_not, end_edged}
+use Rattle.entryends.specs.Ports.{port_told}
 use Rattle.entryends.proofs.read_end.Goals as goal
+
+pub returns-in_err-shaped : goal.returns-in_err-shaped
+returns-in_err-shaped c =
+    let p = err_from_is_err_and c.from_residual.result c.from_residual.ensures.1 in
+    let why = c.in_err-shaped.field-0.0 in
+    rw (p.1, p.2) (end_stops c.args.text.now c.args.from why.number why.place c.args.second c.args.slash c.requires c.in_err-shaped.ensures)
 
 pub read_edged-requires : goal.read_edged-requires
 read_edged-requires c =
-    (ahead c.args.text.now c.args.from c.in-Got.kind c.in-Got.start c.in-Got.end c.in-Got.long c.requires (sym c.name_token-shaped.ensures.0 ∙ c.in-Got.is)).1
+    let t = c.in_ok-shaped.shaped.token in
+    (ahead c.args.text.now c.args.from t.kind t.start t.end t.long c.requires c.in_ok-shaped.ensures.0).1
 
-pub returns-then-kind-eq2 : goal.returns-then-kind-eq2
-returns-then-kind-eq2 c =
-    end_edged c.args.text.now c.args.from c.in-Got.kind c.in-Got.start c.in-Got.end c.in-Got.long c.requires (sym c.name_token-shaped.ensures.0 ∙ c.in-Got.is) c.args.slash c.args.second c.read_edged.result c.if-kind-eq2.true c.read_edged.ensures
+pub returns-then-token-eq2 : goal.returns-then-token-eq2
+returns-then-token-eq2 c =
+    let t = c.in_ok-shaped.shaped.token in
+    end_edged c.args.text.now c.args.from t.kind t.start t.end t.long c.requires c.in_ok-shaped.ensures.0 c.args.slash c.args.second c.read_edged.result c.if-token-eq2.true c.read_edged.ensures
 
-pub returns-then-n-eq0 : goal.returns-then-n-eq0
-returns-then-n-eq0 c =
-    end_plain c.args.text.now c.args.from c.in-Got.kind c.in-Got.start c.in-Got.end c.in-Got.long c.requires (sym c.name_token-shaped.ensures.0 ∙ c.in-Got.is) c.args.slash c.args.second c.if-kind-eq2.false (port-judged c.args.text.now c.args.slash c.in-Got.kind c.in-Got.start c.in-Got.end c.in-Got.long c.name_token-shaped.result.token c.name_token-shaped.result.state 0 c.in-Got.is c.name_token-shaped.ensures.1 (sym c.if-n-eq0.true ∙ c.name_fault-n.ensures))
+pub returns-in_err-name_fault : goal.returns-in_err-name_fault
+returns-in_err-name_fault c =
+    let p = err_from_is_err_and c.from_residual-in_err-name_fault.result c.from_residual-in_err-name_fault.ensures.1 in
+    let why = c.in_err-name_fault.field-0.0 in
+    let t = c.in_ok-shaped.shaped.token in
+    let w = c.in_ok-shaped.ensures in
+    let n = port_told c.args.text.now c.args.slash c.in_ok-shaped.shaped (Err why) w.1 c.in_err-name_fault.ensures in
+    rw (p.1, p.2) (end_not c.args.text.now c.args.from t.kind t.start t.end t.long c.requires w.0 c.args.slash c.args.second why.number why.place c.if-token-eq2.false n)
 
-pub returns-in-Stop : goal.returns-in-Stop
-returns-in-Stop c =
-    end_stops c.args.text.now c.args.from c.in-Stop.number c.in-Stop.place c.args.second c.args.slash c.requires (sym c.name_token-shaped.ensures.0 ∙ c.in-Stop.is)
-
-pub returns-else-n-eq0 : goal.returns-else-n-eq0
-returns-else-n-eq0 c =
-    end_not c.args.text.now c.args.from c.in-Got.kind c.in-Got.start c.in-Got.end c.in-Got.long c.requires (sym c.name_token-shaped.ensures.0 ∙ c.in-Got.is) c.args.slash c.args.second c.name_fault-n.result c.if-kind-eq2.false c.if-n-eq0.false (port-judged c.args.text.now c.args.slash c.in-Got.kind c.in-Got.start c.in-Got.end c.in-Got.long c.name_token-shaped.result.token c.name_token-shaped.result.state c.name_fault-n.result c.in-Got.is c.name_token-shaped.ensures.1 c.name_fault-n.ensures)
+pub returns : goal.returns
+returns c =
+    let t = c.in_ok-shaped.shaped.token in
+    let w = c.in_ok-shaped.ensures in
+    end_plain c.args.text.now c.args.from t.kind t.start t.end t.long c.requires w.0 c.args.slash c.args.second c.if-token-eq2.false
+    (port_told c.args.text.now c.args.slash c.in_ok-shaped.shaped (Ok tt) w.1 c.in_ok-name_fault.ensures)

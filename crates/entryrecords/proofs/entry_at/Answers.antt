@@ -2,4 +2,4 @@
 use Rattle.entryrecords.proofs.entry_at.Goals as goal
 
 pub returns : goal.returns
-returns c = rw (c.head_at-head.ensures, c.numbers_at-numbers.ensures)
+returns c = rw (c.head_at.ensures, c.numbers_at.ensures)

@@ -5,13 +5,10 @@ use Rattle.cellrecords.proofs.Laws.{zs_none, filled_more}
 use Rattle.entryrecords.proofs.fill_entries.Goals as goal
 
 pub loop-k-init : goal.loop-k-init
-loop-k-init c = record { in_range = omega arith; filled = zs_none (entry_of c.args.table.now) c.args.records.now }
+loop-k-init c = (zs_none (entry_of c.args.table.now) c.args.records.now)
 
 pub loop-k-preserved : goal.loop-k-preserved
 loop-k-preserved c =
     let k = c.loop-k.k in
     let within : k < length c.args.records.now = omega arith in
-    record {
-      in_range = omega arith;
-      filled = rw (c.loop-k.invariant.filled, c.entry_at.ensures) (filled_more (entry_of c.args.table.now) c.args.records.now k within no_entry);
-    }
+    rw (c.loop-k.invariant, c.entry_at.ensures) (filled_more (entry_of c.args.table.now) c.args.records.now k within no_entry)

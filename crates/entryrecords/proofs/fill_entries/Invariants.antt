@@ -1,10 +1,7 @@
 -- The first k records are those of the first k rows, and the rest are as lent.
-use Rattle.std.proofs.Common.{◌≡◌, ◌++◌, ◌≤◌, ◌-◌, drop}
+use Rattle.std.proofs.Common.{◌≡◌, ◌++◌, drop}
 use Rattle.entryrecords.specs.Entries.{entries_of}
 use Rattle.entryrecords.proofs.fill_entries.Given as goal
 
 abbrev pub invariant-loop-k : goal.invariant-loop-k
-invariant-loop-k l = record { in_range : l.k ≤ l.n; filled : l.records ≡ entries_of l.table l.k ++ drop l.k l.fn.records }
-
-abbrev pub decreases-loop-k : goal.decreases-loop-k
-decreases-loop-k l = l.n - l.k
+invariant-loop-k l = l.records ≡ entries_of l.table l.k ++ drop l.k l.fn.records

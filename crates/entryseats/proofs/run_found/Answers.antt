@@ -1,39 +1,40 @@
 -- `entryseats::run_found` meets its contract.
 use mathlib.Core.Path.{refl}
 use native.Mathlib.Omega.{arith}
-use Rattle.classes.specs.Choice.{pick}
+use lib.ListN.{length}
 use Rattle.findseat.specs.Laws.{order_there}
 use Rattle.nearby.specs.Laws.{found_none, found-run}
 use Rattle.entryseats.proofs.run_found.Goals as goal
 
-pub head_at-entry-requires : goal.head_at-entry-requires
-head_at-entry-requires c =
-    c.requires.4
-
-pub find_seat-seat-requires : goal.find_seat-seat-requires
-find_seat-seat-requires c =
-    (c.requires.1, c.requires.2, c.requires.5, c.requires.3, rw c.head_at-entry.ensures c.requires.8)
-
-pub returns-then-count-seat : goal.returns-then-count-seat
-returns-then-count-seat c =
-    (refl, found_none c.args.start.now (pick c.args.side c.args.incoming.now c.args.file.now) c.args.plan.slash c.args.plan.instances c.args.entries.now c.args.row c.args.instance c.args.celltype.now c.args.arcs.now c.args.flags.now c.args.states.now c.args.count c.find_seat-seat.result (rw c.head_at-entry.ensures at (c.find_seat-seat.ensures c.args.celltype.now)) c.if-count-seat.true)
-
-pub offset_bounds-arcs-seat : goal.offset_bounds-arcs-seat
-offset_bounds-arcs-seat c =
-    omega (arith, c.if-count-seat.false, c.requires.5)
-
-pub bounds-arcs-seat : goal.bounds-arcs-seat
-bounds-arcs-seat c =
-    omega (arith, c.if-count-seat.false, c.requires.5)
-
 pub run_seat-requires : goal.run_seat-requires
 run_seat-requires c =
-    (c.requires.0, order_there c.args.start.now c.args.plan.arcs c.args.plan.first c.args.arcs.now c.args.count c.requires.1.good c.requires.2 c.find_seat-seat.result (omega (arith, c.if-count-seat.false)), c.requires.3, c.requires.4, omega (arith, c.if-count-seat.false, c.requires.6), omega (arith, c.if-count-seat.false, c.requires.7))
+    let s = c.args.asked.searched in
+    let within = rw c.in-Some.is at c.find_seat-found.ensures.within in (
+      c.requires.0,
+      order_there s.start.now s.plan.arcs s.plan.first c.args.arcs.now (length c.args.arcs.now) c.requires.1.good c.requires.2 c.in-Some.seat within,
+      rw c.requires.4 c.requires.3,
+      c.requires.5,
+      omega (arith, within, c.requires.6),
+      omega (arith, within, c.requires.7),
+    )
 
-pub shape_of-states : goal.shape_of-states
-shape_of-states c =
-    c.states-1.given
+pub returns-in-Some : goal.returns-in-Some
+returns-in-Some c =
+    let a = c.args.asked in
+    let s = a.searched in
+    let within = rw c.in-Some.is at c.find_seat-found.ensures.within in
+    let only = rw (c.head_at-entry.ensures, c.in-Some.is) at (c.find_seat-found.ensures.only a.celltype.now) in (
+      c.run_seat.ensures.0,
+      rw c.requires.4 (found-run s.start.now a.text.now s.plan.slash s.plan.instances c.args.entries.now c.args.row c.args.instance a.celltype.now c.args.arcs.now
+          c.args.flags.now c.args.states.now (length c.args.arcs.now) c.in-Some.seat only _ _ within c.requires.7 (rw c.requires.4 at c.run_seat.ensures.1)),
+    )
 
-pub returns : goal.returns
-returns c =
-    (c.states-1.given, found-run c.args.start.now (pick c.args.side c.args.incoming.now c.args.file.now) c.args.plan.slash c.args.plan.instances c.args.entries.now c.args.row c.args.instance c.args.celltype.now c.args.arcs.now c.args.flags.now c.args.states.now c.args.count c.find_seat-seat.result (rw c.head_at-entry.ensures at (c.find_seat-seat.ensures c.args.celltype.now)) _ _ (omega (arith, c.if-count-seat.false)) c.requires.7 c.run_seat.ensures.1)
+pub returns-in-None : goal.returns-in-None
+returns-in-None c =
+    let a = c.args.asked in
+    let s = a.searched in
+    let only = rw (c.head_at-entry.ensures, c.in-None.is) at (c.find_seat-found.ensures.only a.celltype.now) in (
+      refl,
+      rw c.requires.4 (found_none s.start.now a.text.now s.plan.slash s.plan.instances c.args.entries.now c.args.row c.args.instance a.celltype.now c.args.arcs.now
+          c.args.flags.now c.args.states.now (length c.args.arcs.now) (length c.args.arcs.now) only (omega arith)),
+    )

@@ -1,40 +1,39 @@
 -- `header::pass_scale` meets its contract: the entry is read, or passed over.
-use borrow.Author.Rules.{rules}
-use Rattle.grammar.specs.declared.Hand.TheVariants as held
-use Rattle.grammar.specs.declared.Mark.TheVariants as mark
+use Rattle.std.proofs.Common.{Ok}
+use Rattle.std.proofs.lemmas.Result.{err_from_is_err_and}
 use Rattle.rules.specs.Promises.{InHand}
 use Rattle.rules.specs.Rules.{ahead}
-use Rattle.headsteps.specs.Steps.{ScaleRead}
-use Rattle.headsteps.specs.Header.{scale_over, scale_there_not, scale_there, scale_refused}
+use Rattle.headsteps.specs.Header.{scale_over, scale_there_not, scale_open, scale_there}
 use Rattle.header.proofs.pass_scale.Goals as goal
 
-pub read_scale-scale-requires : goal.read_scale-scale-requires
-read_scale-scale-requires c =
-    let i : InHand c.args.text.now (held.At c.in-At.from c.in-At.kind c.in-At.start c.in-At.end c.in-At.long c.in-At.key) = rw c.in-At.is at c.requires in
-    (ahead c.args.text.now c.in-At.from c.in-At.kind c.in-At.start c.in-At.end c.in-At.long i.0 i.1).1
+pub returns-then-hand-ne52 : goal.returns-then-hand-ne52
+returns-then-hand-ne52 c =
+    let h = c.in_ok-hand.hand in
+    let i : InHand c.args.text.now (Ok h) = rw c.in_ok-hand.was at c.requires in
+    rw c.in_ok-hand.was (scale_over c.args.text.now h i c.if-hand-ne52.true)
 
-pub returns-in-Refused-end : goal.returns-in-Refused-end
-returns-in-Refused-end c =
-    let i : InHand c.args.text.now (held.At c.in-At.from c.in-At.kind c.in-At.start c.in-At.end c.in-At.long c.in-At.key) = rw c.in-At.is at c.requires in
-    let w : ScaleRead c.args.text.now c.in-At.end (mark.Refused c.in-Refused-end.number c.in-Refused-end.place) c.read_scale-scale.result.unit = rw c.in-Refused-end.is at c.read_scale-scale.ensures.0 in
-    (rw c.in-At.is (scale_there_not c.args.text.now c.in-At.from c.in-At.kind c.in-At.start c.in-At.end c.in-At.long c.in-At.key i c.in-Refused-end.number c.in-Refused-end.place c.read_scale-scale.result.unit c.if-key-eq52.true w), c.read_scale-scale.ensures.1)
+pub read_scale-requires : goal.read_scale-requires
+read_scale-requires c =
+    let h = c.in_ok-hand.hand in
+    let i : InHand c.args.text.now (Ok h) = rw c.in_ok-hand.was at c.requires in
+    (ahead c.args.text.now h.from h.token.kind h.token.start h.token.end h.token.long i.0 i.1).1
 
-pub take_next-next-requires : goal.take_next-next-requires
-take_next-next-requires c =
-    let w : ScaleRead c.args.text.now c.in-At.end (mark.At c.in-At-end.behind) c.read_scale-scale.result.unit = rw c.in-At-end.is at c.read_scale-scale.ensures.0 in
-    w.1
+pub returns-in_err-scale : goal.returns-in_err-scale
+returns-in_err-scale c =
+    let h = c.in_ok-hand.hand in
+    let i : InHand c.args.text.now (Ok h) = rw c.in_ok-hand.was at c.requires in
+    let p = err_from_is_err_and c.from_residual-in_err-scale.result c.from_residual-in_err-scale.ensures.1 in
+    rw (p.1, p.2, c.in_ok-hand.was) (scale_there_not c.args.text.now h i _ _ c.if-hand-ne52.false c.in_err-scale.ensures)
 
-pub returns-in-At-end : goal.returns-in-At-end
-returns-in-At-end c =
-    let i : InHand c.args.text.now (held.At c.in-At.from c.in-At.kind c.in-At.start c.in-At.end c.in-At.long c.in-At.key) = rw c.in-At.is at c.requires in
-    let w : ScaleRead c.args.text.now c.in-At.end (mark.At c.in-At-end.behind) c.read_scale-scale.result.unit = rw c.in-At-end.is at c.read_scale-scale.ensures.0 in
-    (rw c.in-At.is (scale_there c.args.text.now c.in-At.from c.in-At.kind c.in-At.start c.in-At.end c.in-At.long c.in-At.key i c.in-At-end.behind c.read_scale-scale.result.unit c.take_next-next.result c.if-key-eq52.true w c.take_next-next.ensures), c.read_scale-scale.ensures.1)
+pub returns-in_err-take_next : goal.returns-in_err-take_next
+returns-in_err-take_next c =
+    let h = c.in_ok-hand.hand in
+    let i : InHand c.args.text.now (Ok h) = rw c.in_ok-hand.was at c.requires in
+    let p = err_from_is_err_and c.from_residual-in_err-take_next.result c.from_residual-in_err-take_next.ensures.1 in
+    rw (p.1, p.2, c.in_ok-hand.was) (scale_open c.args.text.now h i c.in_ok-scale.scale c.if-hand-ne52.false c.in_ok-scale.ensures _ _ c.in_err-take_next.ensures)
 
-pub returns-in-Refused : goal.returns-in-Refused
-returns-in-Refused c =
-    (rw c.in-Refused.is (scale_refused c.args.text.now c.in-Refused.number c.in-Refused.place 6), search rules)
-
-pub returns-else-key-eq52 : goal.returns-else-key-eq52
-returns-else-key-eq52 c =
-    let i : InHand c.args.text.now (held.At c.in-At.from c.in-At.kind c.in-At.start c.in-At.end c.in-At.long c.in-At.key) = rw c.in-At.is at c.requires in
-    (rw c.in-At.is (scale_over c.args.text.now c.in-At.from c.in-At.kind c.in-At.start c.in-At.end c.in-At.long c.in-At.key i c.if-key-eq52.false), search rules)
+pub returns : goal.returns
+returns c =
+    let h = c.in_ok-hand.hand in
+    let i : InHand c.args.text.now (Ok h) = rw c.in_ok-hand.was at c.requires in
+    rw c.in_ok-hand.was (scale_there c.args.text.now h i c.in_ok-scale.scale c.if-hand-ne52.false c.in_ok-scale.ensures _ c.in_ok-take_next.ensures)

@@ -1,38 +1,52 @@
 -- `header::read_unit` meets its contract: each way through it has its rule.
-use mathlib.Core.Path.{sym, ◌∙◌}
-use native.Mathlib.Omega.{arith}
+use Rattle.std.proofs.Common.{arith, sym}
+use Rattle.std.proofs.lemmas.Result.{err_from_is_err_and}
 use Rattle.tokens.specs.Stream.{onwards, part}
 use Rattle.headsteps.specs.Header.{unit_most, unit_stops, unit_kind, unit_not, unit_done}
 use Rattle.header.proofs.read_unit.Goals as goal
 
+pub returns-in_err-token : goal.returns-in_err-token
+returns-in_err-token c =
+    let p = err_from_is_err_and c.from_residual.result c.from_residual.ensures.1 in
+    rw (p.1, p.2) (unit_stops c.args.text.now c.args.from _ _ c.args.power c.requires.0 (sym c.in_err-token.ensures))
+
 pub slice_bounds-unit_of-count : goal.slice_bounds-unit_of-count
 slice_bounds-unit_of-count c =
-    let g = (onwards c.args.text.now c.args.from c.in-Got.kind c.in-Got.start c.in-Got.end c.in-Got.long c.requires.0 (sym c.token_from-t.ensures ∙ c.in-Got.is)) in omega arith
+    let t = c.in_ok-token.token in
+    let g = onwards c.args.text.now c.args.from t.kind t.start t.end t.long c.requires.0 (sym c.in_ok-token.ensures) in omega (arith, g)
 
 pub slice_bounds-unit_of-start : goal.slice_bounds-unit_of-start
 slice_bounds-unit_of-start c =
-    let g = (onwards c.args.text.now c.args.from c.in-Got.kind c.in-Got.start c.in-Got.end c.in-Got.long c.requires.0 (sym c.token_from-t.ensures ∙ c.in-Got.is)) in omega arith
+    let t = c.in_ok-token.token in
+    let g = onwards c.args.text.now c.args.from t.kind t.start t.end t.long c.requires.0 (sym c.in_ok-token.ensures) in omega (arith, g)
 
 pub slice_bounds-unit_of-end : goal.slice_bounds-unit_of-end
 slice_bounds-unit_of-end c =
-    let g = (onwards c.args.text.now c.args.from c.in-Got.kind c.in-Got.start c.in-Got.end c.in-Got.long c.requires.0 (sym c.token_from-t.ensures ∙ c.in-Got.is)) in g.2
+    let t = c.in_ok-token.token in
+    let g = onwards c.args.text.now c.args.from t.kind t.start t.end t.long c.requires.0 (sym c.in_ok-token.ensures) in g.2
 
 pub overflow_add-result : goal.overflow_add-result
 overflow_add-result c =
-    let m = unit_most (part c.in-Got.start c.in-Got.end c.args.text.now) in omega (arith, c.requires.1)
+    let t = c.in_ok-token.token in
+    let m = unit_most (part t.start t.end c.args.text.now) in omega (arith, c.requires.1)
+
+pub invariant_of-result : goal.invariant_of-result
+invariant_of-result c =
+    let t = c.in_ok-token.token in
+    let m = unit_most (part t.start t.end c.args.text.now) in record { most = omega (arith, c.requires.1) }
 
 pub returns-then-unit-ge1 : goal.returns-then-unit-ge1
 returns-then-unit-ge1 c =
-    let m = unit_most (part c.in-Got.start c.in-Got.end c.args.text.now) in (unit_done c.args.text.now c.args.from c.in-Got.kind c.in-Got.start c.in-Got.end c.in-Got.long c.requires.0 (sym c.token_from-t.ensures ∙ c.in-Got.is) c.args.power c.unit_of-unit.result c.if-kind-eq7.true c.unit_of-unit.ensures c.if-unit-ge1.true, omega (arith, c.requires.1))
+    let t = c.in_ok-token.token in
+    unit_done c.args.text.now c.args.from t.kind t.start t.end t.long c.requires.0 (sym c.in_ok-token.ensures) c.args.power c.unit_of-unit.result c.if-token-eq7.true c.unit_of-unit.ensures c.if-unit-ge1.true
+    (let m = unit_most (part t.start t.end c.args.text.now) in omega (arith, c.requires.1))
 
-pub returns-then-kind-eq7 : goal.returns-then-kind-eq7
-returns-then-kind-eq7 c =
-    (rw c.no_scale-then-kind-eq7.ensures.0 (unit_not c.args.text.now c.args.from c.in-Got.kind c.in-Got.start c.in-Got.end c.in-Got.long c.requires.0 (sym c.token_from-t.ensures ∙ c.in-Got.is) c.args.power c.no_scale-then-kind-eq7.result.unit c.if-kind-eq7.true (rw c.unit_of-unit.ensures at c.if-unit-ge1.false)), c.no_scale-then-kind-eq7.ensures.1)
+pub returns-else-unit-ge1 : goal.returns-else-unit-ge1
+returns-else-unit-ge1 c =
+    let t = c.in_ok-token.token in
+    unit_not c.args.text.now c.args.from t.kind t.start t.end t.long c.requires.0 (sym c.in_ok-token.ensures) c.args.power c.if-token-eq7.true (rw c.unit_of-unit.ensures at c.if-unit-ge1.false)
 
-pub returns-in-Stop : goal.returns-in-Stop
-returns-in-Stop c =
-    (rw c.no_scale.ensures.0 (unit_stops c.args.text.now c.args.from c.in-Stop.number c.in-Stop.place c.args.power c.no_scale.result.unit c.requires.0 (sym c.token_from-t.ensures ∙ c.in-Stop.is)), c.no_scale.ensures.1)
-
-pub returns-else-kind-eq7 : goal.returns-else-kind-eq7
-returns-else-kind-eq7 c =
-    (rw c.no_scale-in-Got.ensures.0 (unit_kind c.args.text.now c.args.from c.in-Got.kind c.in-Got.start c.in-Got.end c.in-Got.long c.requires.0 (sym c.token_from-t.ensures ∙ c.in-Got.is) c.args.power c.no_scale-in-Got.result.unit c.if-kind-eq7.false), c.no_scale-in-Got.ensures.1)
+pub returns-else-token-eq7 : goal.returns-else-token-eq7
+returns-else-token-eq7 c =
+    let t = c.in_ok-token.token in
+    unit_kind c.args.text.now c.args.from t.kind t.start t.end t.long c.requires.0 (sym c.in_ok-token.ensures) c.args.power c.if-token-eq7.false

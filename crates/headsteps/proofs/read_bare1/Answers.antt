@@ -1,26 +1,32 @@
 -- `headsteps::read_bare1` meets its contract: each way through it has its rule.
-use mathlib.Core.Path.{sym, ◌∙◌}
-use Rattle.grammar.specs.Grammar.{bare1}
+use Rattle.std.proofs.Common.{sym, rules}
+use Rattle.std.proofs.lemmas.Result.{err_from_is_err_and}
 use Rattle.rules.specs.Rules.{ahead}
+use Rattle.grammar.specs.Grammar.{bare1}
 use Rattle.headsteps.specs.Header.{skip_stops, bare1_shut, bare1_colon, bare1_wrong}
 use Rattle.headsteps.proofs.read_bare1.Goals as goal
 
-pub returns-then-kind-eq3 : goal.returns-then-kind-eq3
-returns-then-kind-eq3 c =
-    bare1_shut c.args.text.now c.args.from c.in-Got.kind c.in-Got.start c.in-Got.end c.in-Got.long c.requires (sym c.token_from-t.ensures ∙ c.in-Got.is) c.if-kind-eq3.true
+pub returns-in_err-token : goal.returns-in_err-token
+returns-in_err-token c =
+    let p = err_from_is_err_and c.from_residual.result c.from_residual.ensures.1 in
+    rw (p.1, p.2) (skip_stops c.args.text.now c.args.from _ _ bare1 c.requires (sym c.in_err-token.ensures))
+
+pub returns-in-3 : goal.returns-in-3
+returns-in-3 c =
+    let t = c.in_ok-token.token in
+    bare1_shut c.args.text.now c.args.from t.kind t.start t.end t.long c.requires (sym c.in_ok-token.ensures) c.in-3.is
 
 pub read_bare2-requires : goal.read_bare2-requires
 read_bare2-requires c =
-    (ahead c.args.text.now c.args.from c.in-Got.kind c.in-Got.start c.in-Got.end c.in-Got.long c.requires (sym c.token_from-t.ensures ∙ c.in-Got.is)).1
+    let t = c.in_ok-token.token in
+    (ahead c.args.text.now c.args.from t.kind t.start t.end t.long c.requires (sym c.in_ok-token.ensures)).1
 
-pub returns-then-kind-eq4 : goal.returns-then-kind-eq4
-returns-then-kind-eq4 c =
-    bare1_colon c.args.text.now c.args.from c.in-Got.kind c.in-Got.start c.in-Got.end c.in-Got.long c.requires (sym c.token_from-t.ensures ∙ c.in-Got.is) c.read_bare2.result c.if-kind-eq4.true c.read_bare2.ensures
+pub returns-in-4 : goal.returns-in-4
+returns-in-4 c =
+    let t = c.in_ok-token.token in
+    bare1_colon c.args.text.now c.args.from t.kind t.start t.end t.long c.requires (sym c.in_ok-token.ensures) c.read_bare2.result c.in-4.is c.read_bare2.ensures
 
-pub returns-in-Stop : goal.returns-in-Stop
-returns-in-Stop c =
-    skip_stops c.args.text.now c.args.from c.in-Stop.number c.in-Stop.place bare1 c.requires (sym c.token_from-t.ensures ∙ c.in-Stop.is)
-
-pub returns-else-kind-eq4 : goal.returns-else-kind-eq4
-returns-else-kind-eq4 c =
-    bare1_wrong c.args.text.now c.args.from c.in-Got.kind c.in-Got.start c.in-Got.end c.in-Got.long c.requires (sym c.token_from-t.ensures ∙ c.in-Got.is) c.if-kind-eq3.false c.if-kind-eq4.false
+pub returns-in_default : goal.returns-in_default
+returns-in_default c =
+    let t = c.in_ok-token.token in
+    bare1_wrong c.args.text.now c.args.from t.kind t.start t.end t.long c.requires (sym c.in_ok-token.ensures) (search rules) (search rules)

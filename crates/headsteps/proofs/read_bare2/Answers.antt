@@ -1,51 +1,50 @@
 -- `headsteps::read_bare2` meets its contract: each way through it has its rule.
-use Prim.Native.Nat.{ℕ}
-use mathlib.Core.Path.{sym, ◌∙◌, subst}
-use native.Mathlib.Omega.{arith}
-use Rattle.tokens.specs.Stream.{placed, onwards}
-use Rattle.grammar.specs.declared.Mark.TheVariants as mark
-use Rattle.grammar.specs.Grammar.{bare2}
-use Rattle.rules.specs.Promises.{Marked}
+use Rattle.std.proofs.Common.{arith, sym}
+use Rattle.std.proofs.lemmas.Result.{err_from_is_err_and}
+use Rattle.tokens.specs.Stream.{onwards}
 use Rattle.rules.specs.Rules.{ahead}
-use Rattle.headsteps.specs.Steps.{NumberShape}
+use Rattle.grammar.specs.Grammar.{bare2}
 use Rattle.headsteps.specs.Header.{skip_stops, bare2_colon, bare2_wrong, bare2_open, bare2_done}
 use Rattle.headsteps.proofs.read_bare2.Goals as goal
 
+pub returns-in_err-token : goal.returns-in_err-token
+returns-in_err-token c =
+    let p = err_from_is_err_and c.from_residual.result c.from_residual.ensures.1 in
+    rw (p.1, p.2) (skip_stops c.args.text.now c.args.from _ _ (bare2 c.args.some) c.requires (sym c.in_err-token.ensures))
+
 pub read_bare3-requires : goal.read_bare3-requires
 read_bare3-requires c =
-    (ahead c.args.text.now c.args.from c.in-Got.kind c.in-Got.start c.in-Got.end c.in-Got.long c.requires (sym c.token_from-t.ensures ∙ c.in-Got.is)).1
+    let t = c.in_ok-token.token in
+    (ahead c.args.text.now c.args.from t.kind t.start t.end t.long c.requires (sym c.in_ok-token.ensures)).1
 
-pub returns-then-kind-eq4 : goal.returns-then-kind-eq4
-returns-then-kind-eq4 c =
-    bare2_colon c.args.text.now c.args.from c.in-Got.kind c.in-Got.start c.in-Got.end c.in-Got.long c.requires (sym c.token_from-t.ensures ∙ c.in-Got.is) c.args.some c.read_bare3.result c.if-kind-eq4.true c.read_bare3.ensures
+pub returns-then-token-eq4 : goal.returns-then-token-eq4
+returns-then-token-eq4 c =
+    let t = c.in_ok-token.token in
+    bare2_colon c.args.text.now c.args.from t.kind t.start t.end t.long c.requires (sym c.in_ok-token.ensures) c.args.some c.read_bare3.result c.if-token-eq4.true c.read_bare3.ensures
 
-pub number_shape-n-requires : goal.number_shape-n-requires
-number_shape-n-requires c =
-    let g = (onwards c.args.text.now c.args.from c.in-Got.kind c.in-Got.start c.in-Got.end c.in-Got.long c.requires (sym c.token_from-t.ensures ∙ c.in-Got.is)) in (omega arith, g.2)
+pub number_shape-requires : goal.number_shape-requires
+number_shape-requires c =
+    let t = c.in_ok-token.token in
+    let g = onwards c.args.text.now c.args.from t.kind t.start t.end t.long c.requires (sym c.in_ok-token.ensures) in (omega (arith, g), g.2)
 
-pub expect-m-requires : goal.expect-m-requires
-expect-m-requires c =
-    (ahead c.args.text.now c.args.from c.in-Got.kind c.in-Got.start c.in-Got.end c.in-Got.long c.requires (sym c.token_from-t.ensures ∙ c.in-Got.is)).1
+pub returns-in_err-number_shape : goal.returns-in_err-number_shape
+returns-in_err-number_shape c =
+    let t = c.in_ok-token.token in
+    let p = err_from_is_err_and c.from_residual-in_err-number_shape.result c.from_residual-in_err-number_shape.ensures.1 in
+    rw (p.1, p.2) (bare2_wrong c.args.text.now c.args.from t.kind t.start t.end t.long c.requires (sym c.in_ok-token.ensures) c.args.some _ _ c.if-token-eq4.false c.in_err-number_shape.ensures)
 
-pub returns-in-Refused : goal.returns-in-Refused
-returns-in-Refused c =
-    let w : Marked c.args.text.now c.in-Got.end 4 (mark.Refused c.in-Refused.number c.in-Refused.place) = rw c.in-Refused.is at c.expect-m.ensures in
-    bare2_open c.args.text.now c.args.from c.in-Got.kind c.in-Got.start c.in-Got.end c.in-Got.long c.requires (sym c.token_from-t.ensures ∙ c.in-Got.is) c.args.some c.in-Refused.number c.in-Refused.place c.if-kind-eq4.false (subst (λ (n : ℕ). NumberShape (placed c.args.text.now c.in-Got.kind c.in-Got.start c.in-Got.end c.in-Got.long) n) c.if-n-eq0.true c.number_shape-n.ensures) w
+pub expect-requires : goal.expect-requires
+expect-requires c =
+    let t = c.in_ok-token.token in
+    (ahead c.args.text.now c.args.from t.kind t.start t.end t.long c.requires (sym c.in_ok-token.ensures)).1
 
-pub read_bare3-requires-in-At : goal.read_bare3-requires-in-At
-read_bare3-requires-in-At c =
-    let w : Marked c.args.text.now c.in-Got.end 4 (mark.At c.in-At.behind) = rw c.in-At.is at c.expect-m.ensures in
-    w.3
+pub returns-in_err-behind : goal.returns-in_err-behind
+returns-in_err-behind c =
+    let t = c.in_ok-token.token in
+    let p = err_from_is_err_and c.from_residual-in_err-behind.result c.from_residual-in_err-behind.ensures.1 in
+    rw (p.1, p.2) (bare2_open c.args.text.now c.args.from t.kind t.start t.end t.long c.requires (sym c.in_ok-token.ensures) c.args.some _ _ c.if-token-eq4.false c.in_ok-number_shape.ensures c.in_err-behind.ensures)
 
-pub returns-in-At : goal.returns-in-At
-returns-in-At c =
-    let w : Marked c.args.text.now c.in-Got.end 4 (mark.At c.in-At.behind) = rw c.in-At.is at c.expect-m.ensures in
-    bare2_done c.args.text.now c.args.from c.in-Got.kind c.in-Got.start c.in-Got.end c.in-Got.long c.requires (sym c.token_from-t.ensures ∙ c.in-Got.is) c.args.some c.in-At.behind c.read_bare3-in-At.result c.if-kind-eq4.false (subst (λ (n : ℕ). NumberShape (placed c.args.text.now c.in-Got.kind c.in-Got.start c.in-Got.end c.in-Got.long) n) c.if-n-eq0.true c.number_shape-n.ensures) w c.read_bare3-in-At.ensures
-
-pub returns-in-Stop : goal.returns-in-Stop
-returns-in-Stop c =
-    skip_stops c.args.text.now c.args.from c.in-Stop.number c.in-Stop.place (bare2 c.args.some) c.requires (sym c.token_from-t.ensures ∙ c.in-Stop.is)
-
-pub returns-else-n-eq0 : goal.returns-else-n-eq0
-returns-else-n-eq0 c =
-    bare2_wrong c.args.text.now c.args.from c.in-Got.kind c.in-Got.start c.in-Got.end c.in-Got.long c.requires (sym c.token_from-t.ensures ∙ c.in-Got.is) c.args.some c.number_shape-n.result c.if-kind-eq4.false c.if-n-eq0.false c.number_shape-n.ensures
+pub returns : goal.returns
+returns c =
+    let t = c.in_ok-token.token in
+    bare2_done c.args.text.now c.args.from t.kind t.start t.end t.long c.requires (sym c.in_ok-token.ensures) c.args.some c.in_ok-behind.behind c.read_bare3-2.result c.if-token-eq4.false c.in_ok-number_shape.ensures c.in_ok-behind.ensures c.read_bare3-2.ensures

@@ -1,20 +1,25 @@
 -- `headsteps::read_text` meets its contract.
-use mathlib.Core.Path.{sym, ◌∙◌}
+use Rattle.std.proofs.Common.{sym}
+use Rattle.std.proofs.lemmas.Result.{err_from_is_err_and}
 use Rattle.headsteps.specs.Header.{text-stops, text-kind, text-long, text_fine}
 use Rattle.headsteps.proofs.read_text.Goals as goal
 
-pub returns-then-long : goal.returns-then-long
-returns-then-long c =
-    text-long c.args.text.now c.args.from c.in-Got.kind c.in-Got.start c.in-Got.end c.in-Got.long c.requires (sym c.text_from-t.ensures ∙ c.in-Got.is) c.if-kind-eq6.true c.if-long.true
+pub returns-in_err-token : goal.returns-in_err-token
+returns-in_err-token c =
+    let p = err_from_is_err_and c.from_residual.result c.from_residual.ensures.1 in
+    rw (p.1, p.2) (text-stops c.args.text.now c.args.from _ _ c.requires (sym c.in_err-token.ensures))
 
-pub returns-then-kind-eq6 : goal.returns-then-kind-eq6
-returns-then-kind-eq6 c =
-    text_fine c.args.text.now c.args.from c.in-Got.kind c.in-Got.start c.in-Got.end c.in-Got.long c.requires (sym c.text_from-t.ensures ∙ c.in-Got.is) c.if-kind-eq6.true c.if-long.false
+pub returns-then-token-ne6 : goal.returns-then-token-ne6
+returns-then-token-ne6 c =
+    let t = c.in_ok-token.token in
+    text-kind c.args.text.now c.args.from t.kind t.start t.end t.long c.requires (sym c.in_ok-token.ensures) c.if-token-ne6.true
 
-pub returns-in-Stop : goal.returns-in-Stop
-returns-in-Stop c =
-    text-stops c.args.text.now c.args.from c.in-Stop.number c.in-Stop.place c.requires (sym c.text_from-t.ensures ∙ c.in-Stop.is)
+pub returns-then-token : goal.returns-then-token
+returns-then-token c =
+    let t = c.in_ok-token.token in
+    text-long c.args.text.now c.args.from t.kind t.start t.end t.long c.requires (sym c.in_ok-token.ensures) c.if-token-ne6.false c.if-token.true
 
-pub returns-else-kind-eq6 : goal.returns-else-kind-eq6
-returns-else-kind-eq6 c =
-    text-kind c.args.text.now c.args.from c.in-Got.kind c.in-Got.start c.in-Got.end c.in-Got.long c.requires (sym c.text_from-t.ensures ∙ c.in-Got.is) c.if-kind-eq6.false
+pub returns : goal.returns
+returns c =
+    let t = c.in_ok-token.token in
+    text_fine c.args.text.now c.args.from t.kind t.start t.end t.long c.requires (sym c.in_ok-token.ensures) c.if-token-ne6.false c.if-token.false

@@ -1,23 +1,24 @@
 -- `list` is safe: the cells and entries that the reader counts are the records that it left in the tables, so none lies beyond their end.
-use Rattle.std.proofs.Common.{◌≡◌, ap, sym, ◌∙◌, List, ℕ, ◌*◌, ◌≤◌, length, drop, length-append, arith}
+use Rattle.std.proofs.Common.{Result, Ok, Err, ◌≡◌, ap, sym, ◌∙◌, List, ℕ, ◌*◌, ◌≤◌, length, drop, length-append, arith}
 use Rattle.grammar.specs.Machine.{Res, fine, bad}
 use Rattle.grammar.specs.Reading.{At}
 use Rattle.tables.specs.Layout.{cell_rows, entry_rows, length-cells, length_entries}
-use Rattle.readcells.specs.declared.Answer.{Answer}
-use Rattle.readcells.specs.declared.Answer.TheVariants.{Read, Refused}
+use Rattle.readcells.specs.declared.Counts.{Counts}
+use Rattle.readcells.specs.Refusal.{Refusal}
+use Rattle.readcells.specs.Counted.{Read}
 use Rattle.readcells.specs.declared.FileRead.{FileRead}
 use Rattle.tables.specs.Left.{cells_left, entries_left}
 use Rattle.readcells.specs.Files.{FileIs, answer_of}
 use Rattle.listing.proofs.list.Goals as goal
 
 -- how many cells and entries an answer counts
-abbrev cell_count : Answer → ℕ
-cell_count (Read n m) = n
-cell_count (Refused k q) = 0
+abbrev cell_count : Result Counts Refusal → ℕ
+cell_count (Ok counts) = counts.cells
+cell_count (Err why) = 0
 
-abbrev entry_count : Answer → ℕ
-entry_count (Read n m) = m
-entry_count (Refused k q) = 0
+abbrev entry_count : Result Counts Refusal → ℕ
+entry_count (Ok counts) = counts.entries
+entry_count (Err why) = 0
 
 -- the records left for them take so many words
 cells-within : (o : Res At) (u : List ℕ) → 7 * cell_count (answer_of o) ≤ length (cells_left o u)
@@ -47,4 +48,4 @@ within o u u' t t' r n m f e =
 
 pub print_cells-requires : goal.print_cells-requires
 print_cells-requires g c =
-    within _ _ _ _ _ _ _ _ c.read_file-read.ensures c.in-Read.is
+    within _ _ _ _ _ _ _ _ c.read_file-read.ensures c.in-Ok.is

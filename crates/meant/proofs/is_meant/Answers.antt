@@ -2,10 +2,6 @@
 use Rattle.meant.specs.Touch.{meant_for}
 use Rattle.meant.proofs.is_meant.Goals as goal
 
-pub meant_in-requires : goal.meant_in-requires
-meant_in-requires c =
-    (rw c.in-One.is at c.requires.2, c.requires.1)
-
 pub returns-in-One : goal.returns-in-One
 unfolding meant_for
 returns-in-One c =

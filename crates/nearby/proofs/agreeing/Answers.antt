@@ -6,20 +6,12 @@ use Rattle.nearby.specs.Laws.{agree-nil, agree-more, agree-past}
 use Rattle.nearby.proofs.agreeing.Goals as goal
 
 pub loop-i-init : goal.loop-i-init
-loop-i-init c = (omega arith, agree-nil _)
+loop-i-init c = agree-nil _
 
 pub returns-then-y-i : goal.returns-then-y-i
 returns-then-y-i c =
-    (omega arith, agree-past c.args.y.now c.args.x.now c.loop-i.i (length c.args.x.now) (omega arith) c.loop-i.invariant.1)
-
-pub returns-then-x-i : goal.returns-then-x-i
-returns-then-x-i c =
-    c.loop-i.invariant
+    (omega arith, agree-past c.args.y.now c.args.x.now c.loop-i.i (length c.args.x.now) (omega arith) c.loop-i.invariant)
 
 pub loop-i-preserved : goal.loop-i-preserved
 loop-i-preserved c =
-    (omega arith, rw add-one (agree-more c.args.y.now c.args.x.now c.loop-i.i (omega arith) (omega arith) (omega arith) c.loop-i.invariant.1))
-
-pub returns : goal.returns
-returns c =
-    c.loop-i.invariant
+    rw add-one (agree-more c.args.y.now c.args.x.now c.loop-i.i (omega arith) (omega arith) (omega arith) c.loop-i.invariant)

@@ -1,7 +1,7 @@
 -- `numbershape::scan_digits` meets its contract: the invariant: the end of the run and the number of all its digits stay the same.
-use Prim.Native.Nat.{◌≤◌, ◌+◌, ◌-◌, min}
+use Prim.Native.Nat.{◌≤◌, ◌+◌, min}
 use mathlib.Core.Path.{◌≡◌}
-use lib.ListN.{length, drop}
+use lib.ListN.{drop}
 use Rattle.numbershape.specs.Steps.{stop}
 use Rattle.numbershape.specs.Value.{horner}
 use Rattle.numbershape.specs.Shape.{run, leading}
@@ -9,8 +9,5 @@ use Rattle.numbershape.proofs.scan_digits.Given as goal
 
 abbrev pub invariant-loop-i : goal.invariant-loop-i
 invariant-loop-i l =
-    (l.i ≤ length l.word) × (l.value ≤ stop) × (l.i + run (drop l.i l.word) ≡ l.from + run (drop l.from l.word))
+    (l.value ≤ stop) × (l.i + run (drop l.i l.word) ≡ l.from + run (drop l.from l.word))
     × (min (horner l.value (leading (drop l.i l.word))) stop ≡ min (horner l.base (leading (drop l.from l.word))) stop)
-
-abbrev pub decreases-loop-i : goal.decreases-loop-i
-decreases-loop-i l = length l.word - l.i

@@ -1,5 +1,6 @@
 -- `ownfaults::own_refusal` meets its contract.
 use mathlib.Core.Path.{refl}
+use Rattle.meant.specs.Amounts.{refused}
 use Rattle.meant.specs.Entries.{rows_at, refusal_for}
 use Rattle.ownfaults.proofs.own_refusal.Goals as goal
 
@@ -23,6 +24,6 @@ returns-in-Every c =
     rw (c.in-Every.is, ← c.head_at-entry.ensures, ← c.expand-rows.ensures) c.refusal_every.ensures
 
 pub returns-in-Nobody : goal.returns-in-Nobody
-unfolding refusal_for
+unfolding refusal_for refused
 returns-in-Nobody c =
     rw c.in-Nobody.is

@@ -30,10 +30,10 @@ bounds-cells-outgoing c =
 
 pub bounds-cells2-6 : goal.bounds-cells2-6
 bounds-cells2-6 c =
-    let ready = cell_ready c.args.start.now c.args.plan.instances c.args.plan.arcs c.args.plan.first c.args.file.now
-    c.args.incoming.now c.args.plan.slash c.args.unit c.args.cells.now c.args.entries.now c.args.count c.args.outgoing
+    let ready = cell_ready c.args.texts.start.now c.args.plan.instances c.args.plan.arcs c.args.plan.first c.args.texts.file.now
+    c.args.texts.incoming.now c.args.plan.slash c.args.unit c.args.cells.now c.args.entries.now c.args.count c.args.outgoing
     c.args.cells2.now c.read_cell-read.new.cells c.args.entries2.now c.read_cell-read.new.entries c.read_cell-read.result
-    c.read_cell-read.ensures c.in-Read.one c.in-Read.all c.in-Read.is
+    c.read_cell-read.ensures c.in-Ok.counts c.in-Ok.is
     (record {
       outgoing = c.args.outgoing;
       cells = c.args.count;
@@ -48,10 +48,10 @@ bounds-cells2-6 c =
 pub swap_cell-swapped-requires : goal.swap_cell-swapped-requires
 swap_cell-swapped-requires c = (
   c.requires.0,
-  cell_ready c.args.start.now c.args.plan.instances c.args.plan.arcs c.args.plan.first c.args.file.now
-      c.args.incoming.now c.args.plan.slash c.args.unit c.args.cells.now c.args.entries.now c.args.count c.args.outgoing
+  cell_ready c.args.texts.start.now c.args.plan.instances c.args.plan.arcs c.args.plan.first c.args.texts.file.now
+      c.args.texts.incoming.now c.args.plan.slash c.args.unit c.args.cells.now c.args.entries.now c.args.count c.args.outgoing
       c.args.cells2.now c.read_cell-read.new.cells c.args.entries2.now c.read_cell-read.new.entries c.read_cell-read.result
-      c.read_cell-read.ensures c.in-Read.one c.in-Read.all c.in-Read.is
+      c.read_cell-read.ensures c.in-Ok.counts c.in-Ok.is
       (record {
         outgoing = c.args.outgoing;
         cells = c.args.count;
@@ -64,26 +64,26 @@ swap_cell-swapped-requires c = (
   c.requires.1,
 )
 
-pub returns-in-Refused : goal.returns-in-Refused
-returns-in-Refused c =
+pub returns-in-Err : goal.returns-in-Err
+returns-in-Err c =
     rw c.refused_after.ensures (
-      cell_unread c.args.start.now c.args.plan.instances c.args.plan.arcs c.args.plan.first c.args.file.now
-          c.args.incoming.now c.args.plan.slash c.args.unit c.args.cells.now c.args.entries.now c.args.count c.args.outgoing
+      cell_unread c.args.texts.start.now c.args.plan.instances c.args.plan.arcs c.args.plan.first c.args.texts.file.now
+          c.args.texts.incoming.now c.args.plan.slash c.args.unit c.args.cells.now c.args.entries.now c.args.count c.args.outgoing
           c.args.cells2.now c.read_cell-read.new.cells c.args.entries2.now c.read_cell-read.new.entries c.read_cell-read.result
-          c.read_cell-read.ensures c.in-Refused.number c.in-Refused.place c.in-Refused.is c.args.current.now,
+          c.read_cell-read.ensures c.in-Err.refusal c.in-Err.is c.args.current.now,
       refl,
-      none_come c.args.start.now c.args.plan.instances c.args.plan.arcs c.args.plan.first c.args.file.now
-          c.args.incoming.now c.args.plan.slash c.args.unit c.args.cells.now c.args.entries.now c.args.count c.args.outgoing
+      none_come c.args.texts.start.now c.args.plan.instances c.args.plan.arcs c.args.plan.first c.args.texts.file.now
+          c.args.texts.incoming.now c.args.plan.slash c.args.unit c.args.cells.now c.args.entries.now c.args.count c.args.outgoing
           c.args.cells2.now c.read_cell-read.new.cells c.args.entries2.now c.read_cell-read.new.entries c.read_cell-read.result
-          c.read_cell-read.ensures c.in-Refused.number c.in-Refused.place c.in-Refused.is,
+          c.read_cell-read.ensures c.in-Err.refusal c.in-Err.is,
     )
 
-pub returns-in-Read : goal.returns-in-Read
-returns-in-Read c = (
-  cell_read c.args.start.now c.args.plan.instances c.args.plan.arcs c.args.plan.first c.args.file.now c.args.incoming.now
+pub returns-in-Ok : goal.returns-in-Ok
+returns-in-Ok c = (
+  cell_read c.args.texts.start.now c.args.plan.instances c.args.plan.arcs c.args.plan.first c.args.texts.file.now c.args.texts.incoming.now
       c.args.plan.slash c.args.unit c.args.cells.now c.args.entries.now c.args.count c.args.outgoing c.args.cells2.now
       c.read_cell-read.new.cells c.args.entries2.now c.read_cell-read.new.entries c.read_cell-read.result c.read_cell-read.ensures
-      c.in-Read.one c.in-Read.all c.in-Read.is c.requires.4 (record {
+      c.in-Ok.counts c.in-Ok.is c.requires.4 (record {
         outgoing = c.args.outgoing;
         cells = c.args.count;
         before = c.count_entries.result;
@@ -92,8 +92,8 @@ returns-in-Read c = (
             0;
       }) refl refl c.args.current.now c.swap_cell-swapped.new.current c.swap_cell-swapped.result c.swap_cell-swapped.ensures,
   refl,
-  one-comes c.args.start.now c.args.plan.instances c.args.plan.arcs c.args.plan.first c.args.file.now
-      c.args.incoming.now c.args.plan.slash c.args.unit c.args.cells.now c.args.entries.now c.args.count c.args.outgoing
+  one-comes c.args.texts.start.now c.args.plan.instances c.args.plan.arcs c.args.plan.first c.args.texts.file.now
+      c.args.texts.incoming.now c.args.plan.slash c.args.unit c.args.cells.now c.args.entries.now c.args.count c.args.outgoing
       c.args.cells2.now c.read_cell-read.new.cells c.args.entries2.now c.read_cell-read.new.entries c.read_cell-read.result
-      c.read_cell-read.ensures c.in-Read.one c.in-Read.all c.in-Read.is,
+      c.read_cell-read.ensures c.in-Ok.counts c.in-Ok.is,
 )

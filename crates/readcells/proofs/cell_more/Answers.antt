@@ -1,25 +1,42 @@
 -- `readcells::cell_more` meets its contract: each way through it has its rule.
-use mathlib.Core.Path.{sym, ◌∙◌}
+use Rattle.std.proofs.Common.{sym, Ok}
+use Rattle.std.proofs.lemmas.Result.{err_from_is_err_and}
+use Rattle.tokenforms.specs.Tokens.{Refused}
+use Rattle.grammar.specs.declared.Hand.{Hand}
 use Rattle.rules.specs.Rules.{ahead}
 use Rattle.readcells.specs.Whole.{more-stops, more_last, more-next, more-wrong}
 use Rattle.readcells.proofs.cell_more.Goals as goal
 
-pub returns-then-kind-eq3 : goal.returns-then-kind-eq3
-returns-then-kind-eq3 c =
-    more_last c.args.text.now c.args.from c.in-Got.kind c.in-Got.start c.in-Got.end c.in-Got.long c.requires (sym c.token_from-t.ensures ∙ c.in-Got.is) c.args.slash c.if-kind-eq3.true
+pub returns-in_err-token : goal.returns-in_err-token
+returns-in_err-token c =
+    let p = err_from_is_err_and c.from_residual.result c.from_residual.ensures.1 in
+    let why = c.in_err-token.field-0.0 in
+    rw (p.1, p.2) (more-stops c.args.text.now c.args.from why.number why.place c.args.slash c.requires (sym c.in_err-token.ensures))
 
-pub take-hand-requires : goal.take-hand-requires
-take-hand-requires c =
-    (ahead c.args.text.now c.args.from c.in-Got.kind c.in-Got.start c.in-Got.end c.in-Got.long c.requires (sym c.token_from-t.ensures ∙ c.in-Got.is)).1
+pub returns-then-token-eq3 : goal.returns-then-token-eq3
+returns-then-token-eq3 c =
+    let t = c.in_ok-token.token in
+    more_last c.args.text.now c.args.from t.kind t.start t.end t.long c.requires (sym c.in_ok-token.ensures) c.args.slash c.if-token-eq3.true
 
-pub returns-then-kind-eq2 : goal.returns-then-kind-eq2
-returns-then-kind-eq2 c =
-    more-next c.args.text.now c.args.from c.in-Got.kind c.in-Got.start c.in-Got.end c.in-Got.long c.requires (sym c.token_from-t.ensures ∙ c.in-Got.is) c.args.slash c.take-hand.result c.if-kind-eq2.true c.take-hand.ensures
+pub take-requires : goal.take-requires
+take-requires c =
+    let t = c.in_ok-token.token in
+    (ahead c.args.text.now c.args.from t.kind t.start t.end t.long c.requires (sym c.in_ok-token.ensures)).1
 
-pub returns-in-Stop : goal.returns-in-Stop
-returns-in-Stop c =
-    more-stops c.args.text.now c.args.from c.in-Stop.number c.in-Stop.place c.args.slash c.requires (sym c.token_from-t.ensures ∙ c.in-Stop.is)
+pub returns-in_err-hand : goal.returns-in_err-hand
+returns-in_err-hand c =
+    let t = c.in_ok-token.token in
+    let p = err_from_is_err_and c.from_residual-in_err-hand.result c.from_residual-in_err-hand.ensures.1 in
+    let why = c.in_err-hand.field-0.0 in
+    rw (p.1, p.2)
+    (more-next c.args.text.now c.args.from t.kind t.start t.end t.long c.requires (sym c.in_ok-token.ensures) c.args.slash (Refused {T = Hand} why.number why.place) c.if-token-eq2.true c.in_err-hand.ensures)
 
-pub returns-else-kind-eq2 : goal.returns-else-kind-eq2
-returns-else-kind-eq2 c =
-    more-wrong c.args.text.now c.args.from c.in-Got.kind c.in-Got.start c.in-Got.end c.in-Got.long c.requires (sym c.token_from-t.ensures ∙ c.in-Got.is) c.args.slash c.if-kind-eq3.false c.if-kind-eq2.false
+pub returns-then-token-eq2 : goal.returns-then-token-eq2
+returns-then-token-eq2 c =
+    let t = c.in_ok-token.token in
+    more-next c.args.text.now c.args.from t.kind t.start t.end t.long c.requires (sym c.in_ok-token.ensures) c.args.slash (Ok c.in_ok-hand.hand) c.if-token-eq2.true c.in_ok-hand.ensures
+
+pub returns : goal.returns
+returns c =
+    let t = c.in_ok-token.token in
+    more-wrong c.args.text.now c.args.from t.kind t.start t.end t.long c.requires (sym c.in_ok-token.ensures) c.args.slash c.if-token-eq3.false c.if-token-eq2.false

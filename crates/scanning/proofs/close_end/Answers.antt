@@ -1,5 +1,7 @@
 -- `scanning::close_end` meets its contract.
-use mathlib.Core.Path.{sym, ◌∙◌}
+use mathlib.Core.Path.{◌≡◌, sym, ◌∙◌}
+use native.Mathlib.Omega.{arith}
+use lib.ListN.{length}
 use borrow.Author.Rules.{rules}
 use Rattle.scanning.specs.Scan.{stops, goes_on, ends}
 use Rattle.scanning.specs.Machines.{close_halts, text_goes}
@@ -15,4 +17,5 @@ loop-i-preserved c =
 
 pub returns : goal.returns
 returns c =
-    (sym (ends close_halts text_goes c.args.text.now c.loop-i.state c.loop-i.i (search rules)) ∙ c.loop-i.invariant.2, search rules)
+    let e : length c.args.text.now ≡ c.loop-i.i = omega arith in
+    (rw e (sym (ends close_halts text_goes c.args.text.now c.loop-i.state c.loop-i.i (search rules)) ∙ c.loop-i.invariant.2), search rules)

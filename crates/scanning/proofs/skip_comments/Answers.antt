@@ -2,7 +2,8 @@
 use Prim.Native.Nat.{◌+◌}
 use mathlib.Core.Path.{◌≡◌, sym, ◌∙◌, ap}
 use mathlib.Core.Bool.{true, false}
-use lib.ListN.{drop, get_or}
+use lib.ListN.{length, drop, get_or}
+use native.Mathlib.Omega.{arith}
 use borrow.Author.Rules.{rules}
 use Rattle.scanning.specs.Scan.{scan_len, scan_st, stops, goes_on, ends, stops_st, goes_on_st, ends_st}
 use Rattle.scanning.specs.Machines.{blank_halts, blank_goes, blank, blank-goes}
@@ -33,9 +34,10 @@ loop-i-preserved c =
 pub returns : goal.returns
 returns c =
     let q = blank c.loop-i.mode c.loop-i.since in
+    let e : length c.args.text.now ≡ c.loop-i.i = omega arith in
     record {
-      ends = sym (ends blank_halts blank_goes c.args.text.now q c.loop-i.i (search rules)) ∙ c.loop-i.invariant.2;
+      ends = rw e (sym (ends blank_halts blank_goes c.args.text.now q c.loop-i.i (search rules)) ∙ c.loop-i.invariant.2);
       state = sym (ends_st blank_halts blank_goes c.args.text.now q c.loop-i.i (search rules)) ∙ c.loop-i.invariant.3;
-      counted = c.loop-i.invariant.1;
-      fits = c.loop-i.invariant.0;
+      counted = omega arith;
+      fits = omega arith;
     }

@@ -1,7 +1,7 @@
 -- `scanning::white_end` meets its contract.
 use native.Mathlib.Omega.{arith}
-use mathlib.Core.Path.{sym, ◌∙◌}
-use lib.ListN.{get_or}
+use mathlib.Core.Path.{◌≡◌, sym, ◌∙◌}
+use lib.ListN.{get_or, length}
 use borrow.Author.Rules.{rules}
 use borrow.Author.Tests.{eqb-true, eqb-false}
 use Rattle.classes.specs.Classes.{class_of}
@@ -21,4 +21,5 @@ loop-i-preserved c =
 
 pub returns : goal.returns
 returns c =
-    record { on = c.loop-i.invariant.0; fits = c.loop-i.invariant.1; ends = c.loop-i.invariant.2; state = c.loop-i.invariant.3; stop = λ h. absurd (omega arith) }
+    let e : length c.args.text.now ≡ c.loop-i.i = omega arith in
+    record { on = omega arith; fits = omega arith; ends = rw e c.loop-i.invariant.2; state = rw e c.loop-i.invariant.3; stop = λ h. absurd (omega arith) }

@@ -1,5 +1,5 @@
 -- `scanning::white_end` meets its contract.
-use Prim.Native.Nat.{◌≤◌, ◌-◌}
+use Prim.Native.Nat.{◌≤◌}
 use mathlib.Core.Path.{◌≡◌}
 use lib.ListN.{length}
 use Rattle.scanning.specs.Machines.{blank_end, blank_at}
@@ -7,6 +7,3 @@ use Rattle.scanning.proofs.white_end.Given as goal
 
 abbrev pub invariant-loop-i : goal.invariant-loop-i
 invariant-loop-i l = (l.from ≤ l.i) × (l.i ≤ length l.text) × (blank_end l.text l.i ≡ blank_end l.text l.from) × (blank_at l.text l.i ≡ blank_at l.text l.from)
-
-abbrev pub decreases-loop-i : goal.decreases-loop-i
-decreases-loop-i l = length l.text - l.i

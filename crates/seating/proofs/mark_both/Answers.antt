@@ -10,4 +10,6 @@ mark_entries-requires c =
 
 pub returns : goal.returns
 returns c =
-    (c.mark_entries-2.ensures.0, marks_cover c.args.start.now c.args.plan.instances c.args.plan.arcs c.args.plan.first c.args.file.now c.args.incoming.now c.args.plan.slash c.args.cells.now c.args.entries.now c.args.cells2.now c.args.entries2.now c.args.swap c.args.leaver c.args.leavertype.now c.args.comer c.args.comertype.now _ _ c.mark_entries.ensures.2 c.mark_entries-2.ensures.1 c.mark_entries-2.ensures.2)
+    let w = c.args.swapping in
+    let s = w.searched in
+    (c.mark_entries-2.ensures.0, marks_cover s.start.now s.plan.instances s.plan.arcs s.plan.first w.file.now w.incoming.now s.plan.slash w.cells.now w.entries.now w.cells2.now w.entries2.now w.swap w.leaver w.leavertype.now w.comer w.comertype.now _ _ c.mark_entries.ensures.2 c.mark_entries-2.ensures.1 c.mark_entries-2.ensures.2)

@@ -6,13 +6,13 @@ use Rattle.sheet.proofs.key_vs.Goals as goal
 
 pub returns-then-by_kind-ne-SAME : goal.returns-then-by_kind-ne-SAME
 unfolding cmp_key wanted
-returns-then-by_kind-ne-SAME c = rw (← c.arc_kind.ensures, ← c.cmp_num-by_kind.ensures, ne_eqb _ _ c.if-by_kind-ne-SAME.true)
+returns-then-by_kind-ne-SAME c = rw (← c.kind.ensures, ← c.cmp_num-by_kind.ensures, ne_eqb _ _ c.if-by_kind-ne-SAME.true)
 
 pub returns-then-by_first-ne-SAME : goal.returns-then-by_first-ne-SAME
 unfolding cmp_key wanted
 returns-then-by_first-ne-SAME c =
     rw (
-      ← c.arc_kind.ensures,
+      ← c.kind.ensures,
       ← c.cmp_num-by_kind.ensures,
       eq-eqb _ _
           c.if-by_kind-ne-SAME.false,
@@ -26,14 +26,14 @@ pub returns-then-by_edge-ne-SAME : goal.returns-then-by_edge-ne-SAME
 unfolding cmp_key wanted
 returns-then-by_edge-ne-SAME c =
     rw (
-      ← c.arc_kind.ensures,
+      ← c.kind.ensures,
       ← c.cmp_num-by_kind.ensures,
       eq-eqb _ _
           c.if-by_kind-ne-SAME.false,
       ← c.first_end.ensures,
       ← c.cmp_full-by_first.ensures,
       eq-eqb _ _ c.if-by_first-ne-SAME.false,
-      ← c.arc_edge.ensures,
+      ← c.edge.ensures,
       ← c.cmp_num-by_edge.ensures,
       ne_eqb _ _ c.if-by_edge-ne-SAME.true,
     )
@@ -42,7 +42,7 @@ pub returns-then-by_second-ne-SAME : goal.returns-then-by_second-ne-SAME
 unfolding cmp_key wanted
 returns-then-by_second-ne-SAME c =
     rw (
-      ← c.arc_kind.ensures,
+      ← c.kind.ensures,
       ← c.cmp_num-by_kind.ensures,
       eq-eqb _ _
           c.if-by_kind-ne-SAME.false,
@@ -50,7 +50,7 @@ returns-then-by_second-ne-SAME c =
       ← c.cmp_full-by_first.ensures,
       eq-eqb _ _
           c.if-by_first-ne-SAME.false,
-      ← c.arc_edge.ensures,
+      ← c.edge.ensures,
       ← c.cmp_num-by_edge.ensures,
       eq-eqb _ _ c.if-by_edge-ne-SAME.false,
       ← c.second_vs-by_second.ensures,
@@ -62,7 +62,7 @@ pub returns : goal.returns
 unfolding cmp_key wanted
 returns c =
     rw (
-      ← c.arc_kind.ensures,
+      ← c.kind.ensures,
       ← c.cmp_num-by_kind.ensures,
       eq-eqb _ _
           c.if-by_kind-ne-SAME.false,
@@ -70,11 +70,11 @@ returns c =
       ← c.cmp_full-by_first.ensures,
       eq-eqb _ _
           c.if-by_first-ne-SAME.false,
-      ← c.arc_edge.ensures,
+      ← c.edge.ensures,
       ← c.cmp_num-by_edge.ensures,
       eq-eqb _ _ c.if-by_edge-ne-SAME.false,
       ← c.second_vs-by_second.ensures,
       eq-eqb _ _
           c.if-by_second-ne-SAME.false,
-      ← c.arc_edge2.ensures,
+      ← c.edge2.ensures,
     ) c.cmp_num.ensures

@@ -1,39 +1,25 @@
 -- `sheetform::arcs_step` meets its contract.
-use Prim.Native.Nat.{◌-◌}
-use mathlib.Core.Path.{◌≡◌, refl, sym, ◌∙◌}
+use mathlib.Core.Path.{sym, ◌∙◌}
 use native.Mathlib.Omega.{arith}
 use borrow.Author.Rules.{rules}
-use Rattle.sheetparts.specs.Passed.{stuck, ar_next_lem}
+use Rattle.sheetparts.specs.Passed.{ar_next_lem}
 use Rattle.sheetparts.specs.Loops.{arc-more, arcs_end}
-use Rattle.sheetparts.proofs.Tags.{not-next}
+use Rattle.sheetparts.proofs.Steps.{passed_on}
 use Rattle.sheetform.proofs.arcs_step.Goals as goal
 
-pub loop-k-init : goal.loop-k-init
-loop-k-init c =
-    (search rules, search rules, (λ z. absurd (z refl)), let e : c.args.count - 0 ≡ c.args.count = omega arith in rw e)
+pub returns-in_err-next : goal.returns-in_err-next
+returns-in_err-next c =
+    let e = sym (arc-more c.args.sheet.now c.args.count c.loop.counter c.loop.prev c.loop.here (search rules)) ∙ c.loop.invariant.2 in
+    rw (passed_on c.from_residual.result _ c.from_residual.ensures) (rw (← c.in_err-next.ensures.0) at e, search rules)
 
-pub ar_step-t-requires : goal.ar_step-t-requires
-ar_step-t-requires c = (c.loop-k.invariant.1, c.loop-k.invariant.2)
-
-pub returns-in_default : goal.returns-in_default
-returns-in_default c = (
-  stuck c.ar_step-t.result _ _ c.ar_step-t.ensures.0 (not-next c.ar_step-t.result c.in_default.in_default-own.keys2) ∙ sym (arc-more c.args.sheet.now c.args.count c.loop-k.k c.loop-k.prev c.loop-k.here (search rules)) ∙ c.loop-k.invariant.3,
-  c.ar_step-t.ensures.1,
-)
-
-pub loop-k-preserved : goal.loop-k-preserved
-loop-k-preserved c =
-    let e = sym c.ar_step-t.ensures.0 ∙ c.in-Next.is in
-    let r = ar_next_lem c.args.sheet.now c.loop-k.prev c.loop-k.here c.in-Next.next e in
+pub loop-preserved : goal.loop-preserved
+loop-preserved c =
+    let e = sym (arc-more c.args.sheet.now c.args.count c.loop.counter c.loop.prev c.loop.here (search rules)) ∙ c.loop.invariant.2 in
+    let r = ar_next_lem c.args.sheet.now c.loop.prev c.loop.here c.in_ok-next.next (sym c.in_ok-next.ensures.0) in
     let i = r.inside in
-    let j = r.place in (
-      search rules,
-      i,
-      (λ z. omega arith),
-      sym (arc-more c.args.sheet.now c.args.count c.loop-k.k c.loop-k.prev c.loop-k.here (search rules) ∙ rw e)
-          ∙ c.loop-k.invariant.3,
-    )
+    let j = r.place in
+    (i, (λ z. omega arith), rw (← c.in_ok-next.ensures.0) at e)
 
 pub returns : goal.returns
 returns c =
-    (sym (arcs_end c.args.sheet.now c.args.count c.loop-k.k c.loop-k.prev c.loop-k.here (search rules)) ∙ c.loop-k.invariant.3, search rules)
+    (sym (arcs_end c.args.sheet.now c.args.count c.loop.counter c.loop.prev c.loop.here (search rules)) ∙ c.loop.invariant.2, search rules)

@@ -10,9 +10,9 @@ use Rattle.starred.proofs.write_chained.Given as goal
 
 abbrev pub invariant-loop-k : goal.invariant-loop-k
 invariant-loop-k l =
-    OnChain (type_bucket l.start) l.plan.instances (bucket_of l.celltype) l.k
-    × (l.out ≡ written_of (typed l.start l.celltype) (writes_in l.start l.text l.plan.slash l.plan.instances l.plan.arcs l.plan.first l.entry l.rows) l.initial.out l.k)
+    OnChain (type_bucket l.lookup.start.sheet.now) l.lookup.start.plan.instances (bucket_of l.celltype) l.k
+    × (l.out ≡ written_of (typed l.lookup.start.sheet.now l.celltype) (writes_in l.lookup.start.sheet.now l.change.text.now l.lookup.start.plan.slash l.lookup.start.plan.instances l.lookup.start.plan.arcs l.lookup.start.plan.first l.change.head l.change.rows) l.initial.out l.k)
     × (length l.out ≡ length l.initial.out)
 
 abbrev pub decreases-loop-k : goal.decreases-loop-k
-decreases-loop-k l = l.plan.instances - l.k
+decreases-loop-k l = l.lookup.start.plan.instances - l.k

@@ -31,23 +31,23 @@ mark_arcs-requires c =
     let s = sheet_good c.args.start.now c.args.plan.instances c.args.plan.arcs c.args.plan.first c.requires.0 in
     (s.arcs, s.short)
 
-pub whom_of-leaver-requires : goal.whom_of-leaver-requires
-whom_of-leaver-requires c =
+pub whom_of-requires : goal.whom_of-requires
+whom_of-requires c =
     rw c.mark_instances.ensures (instances_ready c.args.start.now c.args.plan.instances c.args.plan.arcs c.args.plan.first _ (sheet_good c.args.start.now c.args.plan.instances c.args.plan.arcs c.args.plan.first c.requires.0) (search rules))
 
 pub cell_at-into-requires : goal.cell_at-into-requires
 cell_at-into-requires c =
     c.requires.1.room2
 
-pub whom_of-comer-requires : goal.whom_of-comer-requires
-whom_of-comer-requires c =
+pub whom_of-requires-2 : goal.whom_of-requires-2
+whom_of-requires-2 c =
     rw c.mark_instances.ensures (instances_ready c.args.start.now c.args.plan.instances c.args.plan.arcs c.args.plan.first _ (sheet_good c.args.start.now c.args.plan.instances c.args.plan.arcs c.args.plan.first c.requires.0) (search rules))
 
-pub swap_seated-least-requires : goal.swap_seated-least-requires
-swap_seated-least-requires c =
-    (record { ready = c.requires.1; search = rw c.mark_instances.ensures (instances_ready c.args.start.now c.args.plan.instances c.args.plan.arcs c.args.plan.first _ (sheet_good c.args.start.now c.args.plan.instances c.args.plan.arcs c.args.plan.first c.requires.0) (search rules)); arcs = rw c.mark_arcs.ensures (arcs_ready c.args.start.now c.args.plan.instances c.args.plan.arcs c.args.plan.first _ (sheet_good c.args.start.now c.args.plan.instances c.args.plan.arcs c.args.plan.first c.requires.0) (search rules)); leaver_in = c.whom_of-leaver.ensures.1; comer_in = c.whom_of-comer.ensures.1 }, c.requires.2)
+pub swap_seated-requires : goal.swap_seated-requires
+swap_seated-requires c =
+    (record { ready = c.requires.1; search = rw c.mark_instances.ensures (instances_ready c.args.start.now c.args.plan.instances c.args.plan.arcs c.args.plan.first _ (sheet_good c.args.start.now c.args.plan.instances c.args.plan.arcs c.args.plan.first c.requires.0) (search rules)); arcs = rw c.mark_arcs.ensures (arcs_ready c.args.start.now c.args.plan.instances c.args.plan.arcs c.args.plan.first _ (sheet_good c.args.start.now c.args.plan.instances c.args.plan.arcs c.args.plan.first c.requires.0) (search rules)); leaver_in = c.whom_of.ensures.1; comer_in = c.whom_of-2.ensures.1 }, c.requires.2)
 
 pub returns : goal.returns
 returns c =
-    let move : MoversAre c.args.start.now c.args.plan.instances c.args.plan.arcs c.args.plan.first c.args.file.now c.args.incoming.now c.args.plan.slash c.args.cells.now c.args.entries.now c.args.cells2.now c.args.entries2.now c.args.swap c.whom_of-leaver.result c.part_of-leavertype.result.now c.whom_of-comer.result c.part_of-comertype.result.now = rw (c.whom_of-leaver.ensures.0, c.part_of-leavertype.ensures, c.whom_of-comer.ensures.0, c.part_of-comertype.ensures, c.cell_at-out.ensures, c.cell_at-into.ensures) (movers c.args.start.now c.args.plan.instances c.args.plan.arcs c.args.plan.first c.args.file.now c.args.incoming.now c.args.plan.slash c.args.cells.now c.args.entries.now c.args.cells2.now c.args.entries2.now c.args.swap) in
-    rw c.answer_of.ensures (swap_answered c.args.start.now c.args.plan.instances c.args.plan.arcs c.args.plan.first c.args.file.now c.args.incoming.now c.args.plan.slash c.args.cells.now c.args.entries.now c.args.cells2.now c.args.entries2.now c.args.swap c.whom_of-leaver.result c.part_of-leavertype.result.now c.whom_of-comer.result c.part_of-comertype.result.now c.own_fault-own.result move (λ y h g. own_least c.args.start.now c.args.plan.instances c.args.plan.arcs c.args.plan.first c.args.file.now c.args.incoming.now c.args.plan.slash c.args.swap.before c.own_fault-own.result c.requires.1.before c.own_fault-own.ensures y h g) c.args.current.now c.swap_seated-least.result _ c.swap_seated-least.ensures)
+    let move : MoversAre c.args.start.now c.args.plan.instances c.args.plan.arcs c.args.plan.first c.args.file.now c.args.incoming.now c.args.plan.slash c.args.cells.now c.args.entries.now c.args.cells2.now c.args.entries2.now c.args.swap c.whom_of.result c.part_of.result.now c.whom_of-2.result c.part_of-2.result.now = rw (c.whom_of.ensures.0, c.part_of.ensures, c.whom_of-2.ensures.0, c.part_of-2.ensures, c.cell_at-out.ensures, c.cell_at-into.ensures) (movers c.args.start.now c.args.plan.instances c.args.plan.arcs c.args.plan.first c.args.file.now c.args.incoming.now c.args.plan.slash c.args.cells.now c.args.entries.now c.args.cells2.now c.args.entries2.now c.args.swap) in
+    rw c.answer_of.ensures (swap_answered c.args.start.now c.args.plan.instances c.args.plan.arcs c.args.plan.first c.args.file.now c.args.incoming.now c.args.plan.slash c.args.cells.now c.args.entries.now c.args.cells2.now c.args.entries2.now c.args.swap c.whom_of.result c.part_of.result.now c.whom_of-2.result c.part_of-2.result.now c.own_fault-own.result move (λ y h g. own_least c.args.start.now c.args.plan.instances c.args.plan.arcs c.args.plan.first c.args.file.now c.args.incoming.now c.args.plan.slash c.args.swap.before c.own_fault-own.result c.requires.1.before c.own_fault-own.ensures y h g) c.args.current.now c.swap_seated.result _ c.swap_seated.ensures)

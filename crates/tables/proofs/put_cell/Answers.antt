@@ -4,4 +4,4 @@ use Rattle.tables.proofs.put_cell.Goals as goal
 
 pub returns : goal.returns
 returns c =
-    c.put_words.ensures ∙ rw c.cell_words-words.ensures
+    c.put_words.ensures ∙ rw c.cell_words.ensures

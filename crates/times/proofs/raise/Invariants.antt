@@ -1,11 +1,7 @@
 -- `times::raise` meets its contract: the invariant: what is left of the power, times the value so far, is the whole.
-use Prim.Native.Nat.{◌≤◌, ◌<◌, ◌*◌, ◌^◌, min}
-use mathlib.Core.Path.{◌≡◌}
+use Rattle.std.proofs.Common.{◌≡◌, ◌≤◌, ◌<◌, ◌*◌, ◌^◌, ◌-◌, min}
 use Rattle.numbershape.specs.Steps.{stop}
 use Rattle.times.proofs.raise.Given as goal
 
-abbrev pub invariant-loop-left : goal.invariant-loop-left
-invariant-loop-left l = (l.v ≤ stop) × (0 < l.v) × (min (l.v * 10 ^ l.left) stop ≡ min (l.value * 10 ^ l.n) stop)
-
-abbrev pub decreases-loop-left : goal.decreases-loop-left
-decreases-loop-left l = l.left
+abbrev pub invariant-loop : goal.invariant-loop
+invariant-loop l = (l.raised ≤ stop) × (0 < l.raised) × (min (l.raised * 10 ^ (l.n - l.counter)) stop ≡ min (l.value * 10 ^ l.n) stop)

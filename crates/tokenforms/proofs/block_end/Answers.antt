@@ -1,5 +1,7 @@
 -- `tokenforms::block_end` meets its contract.
-use mathlib.Core.Path.{sym, ◌∙◌}
+use mathlib.Core.Path.{◌≡◌, sym, ◌∙◌}
+use native.Mathlib.Omega.{arith}
+use lib.ListN.{length}
 use borrow.Author.Rules.{rules}
 use Rattle.scanning.specs.Scan.{stops, goes_on, ends}
 use Rattle.scanning.specs.Machines.{block_halts, block_goes}
@@ -15,4 +17,5 @@ loop-i-preserved c =
 
 pub returns : goal.returns
 returns c =
-    sym (ends block_halts block_goes c.args.text.now 0 c.loop-i.i (search rules)) ∙ c.loop-i.invariant.1
+    let e : length c.args.text.now ≡ c.loop-i.i = omega arith in
+    rw e (sym (ends block_halts block_goes c.args.text.now 0 c.loop-i.i (search rules)) ∙ c.loop-i.invariant.1)

@@ -2,7 +2,8 @@
 use Prim.Native.Nat.{◌+◌}
 use mathlib.Core.Path.{◌≡◌, sym, ◌∙◌}
 use mathlib.Core.Bool.{true, false}
-use lib.ListN.{get_or}
+use native.Mathlib.Omega.{arith}
+use lib.ListN.{get_or, length}
 use borrow.Author.Rules.{rules}
 use Rattle.scanning.specs.Scan.{stops, goes_on, ends, stops_st, goes_on_st, ends_st}
 use Rattle.scanning.specs.Machines.{text_halts, text_goes}
@@ -20,4 +21,5 @@ loop-i-preserved c =
 
 pub returns : goal.returns
 returns c =
-    (sym (ends text_halts text_goes c.args.text.now c.loop-i.state c.loop-i.i (search rules)) ∙ c.loop-i.invariant.2, sym (ends_st text_halts text_goes c.args.text.now c.loop-i.state c.loop-i.i (search rules)) ∙ c.loop-i.invariant.3, search rules, search rules)
+    let e : length c.args.text.now ≡ c.loop-i.i = omega arith in
+    (rw e (sym (ends text_halts text_goes c.args.text.now c.loop-i.state c.loop-i.i (search rules)) ∙ c.loop-i.invariant.2), sym (ends_st text_halts text_goes c.args.text.now c.loop-i.state c.loop-i.i (search rules)) ∙ c.loop-i.invariant.3, search rules, search rules)

@@ -1,9 +1,5 @@
 -- `tokens::mark_from` meets its contract: behind each byte of white space the token is the same.
-use native.Mathlib.Nat.{not-suc-le-zero}
-use mathlib.Core.Path.{sym, ◌∙◌}
-use lib.ListN.{get_or}
-use borrow.Author.Rules.{rules}
-use borrow.Author.Tests.{eqb-true}
+use Rattle.std.proofs.Common.{sym, ◌∙◌, get_or, rules, eqb-true}
 use Rattle.classes.specs.Classes.{class_of}
 use Rattle.scanning.specs.RunLaws.{white_goes}
 use Rattle.tokens.specs.Quick.{white_token, mark_token}
@@ -18,7 +14,3 @@ loop-i-preserved c =
     let k = eqb-true (class_of (get_or c.args.text.now c.loop-i.i 0)) 1 (sym c.is_white.ensures ∙ c.if-not-is_white.false) in
     let w = white_goes c.args.text.now c.loop-i.i (search rules) k in
     (search rules, white_token c.args.text.now _ _ w.0 w.1 ∙ c.loop-i.invariant.1)
-
-pub returns : goal.returns
-returns c =
-    (c.loop-i.invariant.1, c.loop-i.invariant.0, λ h. absurd (not-suc-le-zero h))

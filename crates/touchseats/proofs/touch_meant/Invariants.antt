@@ -1,15 +1,11 @@
 -- `touchseats::touch_meant` meets its contract. Invariant: the first i seats have their flags.
-use Prim.Native.Nat.{◌-◌, ◌≤◌}
 use mathlib.Core.Path.{◌≡◌}
 use lib.ListN.{length}
-use Rattle.classes.specs.Choice.{pick}
 use Rattle.touchseats.specs.Laws.{SeatsSoFar}
 use Rattle.touchseats.proofs.touch_meant.Given as goal
 
-abbrev pub invariant-loop-i : goal.invariant-loop-i
-invariant-loop-i l =
-    (l.i ≤ l.count) × (length l.flags ≡ length l.initial.flags)
-    × SeatsSoFar l.start (pick l.side l.incoming l.file) l.plan.slash l.plan.instances l.entries l.row l.whom l.celltype l.arcs l.initial.flags l.i l.flags
-
-abbrev pub decreases-loop-i : goal.decreases-loop-i
-decreases-loop-i l = l.count - l.i
+abbrev pub invariant-loop-seat : goal.invariant-loop-seat
+invariant-loop-seat l =
+    let s = l.asked.searched in
+    (length l.flags ≡ length l.initial.flags)
+    × SeatsSoFar s.start.now l.asked.text.now s.plan.slash s.plan.instances l.entries l.row l.asked.whom l.asked.celltype.now l.arcs l.initial.flags l.seat l.flags

@@ -1,15 +1,11 @@
 -- `touchseats::touch_seats` meets its contract. Invariant: all seats have their flags behind the entries so far.
-use Prim.Native.Nat.{◌-◌, ◌≤◌}
 use mathlib.Core.Path.{◌≡◌}
 use lib.ListN.{length}
-use Rattle.classes.specs.Choice.{pick}
 use Rattle.touchseats.specs.Touchseats.{SeatsTouched}
 use Rattle.touchseats.proofs.touch_seats.Given as goal
 
 abbrev pub invariant-loop-k : goal.invariant-loop-k
 invariant-loop-k l =
-    (l.k ≤ l.some) × (length l.flags ≡ length l.initial.flags)
-    × SeatsTouched l.start (pick l.side l.incoming l.file) l.plan.slash l.plan.instances l.entries l.first l.k l.whom l.celltype l.arcs l.initial.flags l.count l.flags
-
-abbrev pub decreases-loop-k : goal.decreases-loop-k
-decreases-loop-k l = l.some - l.k
+    let s = l.asked.searched in
+    (length l.flags ≡ length l.initial.flags)
+    × SeatsTouched s.start.now l.asked.text.now s.plan.slash s.plan.instances l.entries l.first l.k l.asked.whom l.asked.celltype.now l.arcs l.initial.flags (length l.arcs) l.flags

@@ -1,12 +1,10 @@
 -- `values::read_values` meets its contract: the values read so far are the front of the list.
-use Prim.Native.Nat.{◌-◌, ◌≤◌}
-use mathlib.Core.Path.{◌≡◌}
-use lib.ListN.{length, take}
+use Rattle.std.proofs.Common.{◌≡◌, ◌-◌, ◌≤◌, length, take}
 use Rattle.rules.specs.Promises.{Listed}
 use Rattle.values.proofs.read_values.Given as goal
 
-abbrev pub invariant-loop-number : goal.invariant-loop-number
-invariant-loop-number l = (l.n ≤ 6) × (length l.list ≡ 6) × (l.from ≤ l.p) × (l.p ≤ length l.text) × Listed l.text l.from l.unit l.p (take l.n l.list) l.n
+abbrev pub invariant-loop-token : goal.invariant-loop-token
+invariant-loop-token l = (l.count ≤ 6) × (length l.list ≡ 6) × (l.from ≤ l.p) × (l.p ≤ length l.text) × Listed l.text l.from l.unit l.p (take l.count l.list) l.count
 
-abbrev pub decreases-loop-number : goal.decreases-loop-number
-decreases-loop-number l = 6 - l.n
+abbrev pub decreases-loop-token : goal.decreases-loop-token
+decreases-loop-token l = 6 - l.count

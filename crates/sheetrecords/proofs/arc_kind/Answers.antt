@@ -1,8 +1,0 @@
--- `sheetrecords::arc_kind` meets its contract.
-use Rattle.sheetparts.specs.Form.{key_at}
-use mathlib.Core.Path.{refl}
-use Rattle.sheetrecords.proofs.arc_kind.Goals as goal
-
-pub returns : goal.returns
-unfolding key_at
-returns c = refl

@@ -1,6 +1,0 @@
--- `sheetrecords::instance_path` meets its contract.
-use native.Mathlib.Nat.{add-sub_cancel_left}
-use Rattle.sheetrecords.proofs.instance_path.Goals as goal
-
-pub returns : goal.returns
-returns c = rw (← c.path_len-m.ensures, add-sub_cancel_left)

@@ -1,8 +1,0 @@
--- `sheetrecords::second_end` meets its contract.
-use native.Mathlib.Nat.{add-sub_cancel_left}
-use Rattle.sheetparts.specs.Form.{key_at}
-use Rattle.sheetrecords.proofs.second_end.Goals as goal
-
-pub returns : goal.returns
-unfolding key_at
-returns c = rw (← c.second_len-n.ensures, ← c.first_len-m.ensures, add-sub_cancel_left)
