@@ -176,6 +176,7 @@ pub fn read_body(
     let mut some = true;
     let mut p = from;
     let mut n: usize = 0;
+    // No `for`: where the next step begins, and whether there is one, shows only when this one is read.
     loop {
         match body_turn(text, p, within, some)? {
             Turn::Done(end) => return Ok(ReadBody { end, count: n }),

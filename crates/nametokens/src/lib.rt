@@ -23,6 +23,7 @@ fn plain_name(text: &[u8], from: usize, slash: bool) -> usize
 {
     let divider = divider_of(slash);
     let mut i = from;
+    // No `for`: a divider and the byte behind it are passed together.
     while i < text.len() {
         let byte = text[i];
         if is_name_byte(byte) {

@@ -151,6 +151,7 @@ pub fn read_cells(
     let mut hand = lead?;
     let mut n: usize = 0;
     let mut m: usize = 0;
+    // No `for`: whether another cell follows shows only when this one is read.
     loop {
         let token = hand.token;
         let place = token.start;

@@ -23,7 +23,9 @@ pub fn next_token(text: &[u8], from: usize) -> Result<Token, Refusal>
     token_from(text, from)
 }
 
-// The token from a place on, within the text: as a rule it is a mark or a word.
+// The token from a place on, within the text: as a rule it is a mark or a word. Inlined, since most callers look at its kind and end alone, and the
+// token need not be written then.
+#[inline(always)]
 pub fn token_from(text: &[u8], from: usize) -> Result<Token, Refusal>
     requires { from ≤ length text.now }
     ensures { result ≡ token_at text.now from }

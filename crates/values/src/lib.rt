@@ -311,6 +311,7 @@ pub fn read_values(text: &[u8], from: usize, unit: u8) -> Result<Values, Refusal
     list[0] = first.value;
     let mut count = 1;
     let mut p = first.end;
+    // No `for`: where the next value begins, and whether there is one, shows only when this one is read.
     loop {
         let token = token_from(text, p)?;
         if token.kind == 3 {
