@@ -30,7 +30,7 @@ pub fn refusal_in(start: Start, change: Change, out: &[u8], instance: usize) -> 
         start.entry.plan.first change.entry.head change.entry.rows out.now instance) }
 {
     if change.head.kind == DEVICE {
-        return entryarcs::device_refusal(start, change, out, instance);
+        return entryarcs::device_refusal(start.sheet, start.plan, change, out, instance);
     }
     match entryarcs::arc_of(start, change.text, change.head, instance) {
         Some(arc) => amounts::arc_refusal(
@@ -55,7 +55,7 @@ pub fn write_in(start: Start, change: Change, out: &mut [u8], instance: usize)
         start.entry.plan.first change.entry.head change.entry.rows out.old instance }
 {
     if change.head.kind == DEVICE {
-        entryarcs::device_write(start, change, out, instance);
+        entryarcs::device_write(start.sheet, start.plan, change, out, instance);
         return;
     }
     if let Some(arc) = entryarcs::arc_of(start, change.text, change.head, instance) {
@@ -78,9 +78,9 @@ pub fn apply_in(start: Start, change: Change, out: &mut [u8], instance: usize) -
         start.entry.plan.first change.entry.head change.entry.rows out.old instance) }
 {
     if change.head.kind == DEVICE {
-        let refusal = entryarcs::device_refusal(start, change, out, instance);
+        let refusal = entryarcs::device_refusal(start.sheet, start.plan, change, out, instance);
         if refusal.is_none() {
-            entryarcs::device_write(start, change, out, instance);
+            entryarcs::device_write(start.sheet, start.plan, change, out, instance);
         }
         return refusal;
     }

@@ -44,7 +44,14 @@ fn refusal_chained(
     // Each turn reads the next one's number, so this is a `while`.
     while k < start.plan.arcs {
         let here = deviceport::arc_place(start, k);
-        if entryarcs::device_hit(start, change.text, change.head, instance, here) {
+        if entryarcs::device_hit(
+            start.sheet,
+            change.text,
+            start.plan.slash,
+            change.head,
+            instance,
+            here,
+        ) {
             let values = Arc {
                 sheet: start.sheet,
                 place: here,
@@ -85,7 +92,14 @@ fn write_chained(
     // As above.
     while k < start.plan.arcs {
         let here = deviceport::arc_place(start, k);
-        if entryarcs::device_hit(start, change.text, change.head, instance, here) {
+        if entryarcs::device_hit(
+            start.sheet,
+            change.text,
+            start.plan.slash,
+            change.head,
+            instance,
+            here,
+        ) {
             let values = Arc {
                 sheet: start.sheet,
                 place: here,

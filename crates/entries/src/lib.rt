@@ -153,7 +153,8 @@ fn read_device(
     Ok(ReadEntry { entry, values })
 }
 
-// The second of two values of a check, and its closing bracket.
+// The second of two values of a check, and its closing bracket. Inlined, as is check_values: a call would copy the list on its way into the entry.
+#[inline(always)]
 fn second_value(
     text: &[u8],
     from: usize,
@@ -176,6 +177,7 @@ fn second_value(
 }
 
 // The values of a check, one or two, and its closing bracket.
+#[inline(always)]
 fn check_values(
     text: &[u8],
     from: usize,

@@ -56,12 +56,19 @@ pub struct Change<'a> {
 }
 
 // Whether DEVICE means the arc at a place, in the instance at another.
-pub fn device_hit(start: Start, text: &[u8], entry: Entry, instance: usize, arc: usize) -> bool
-    requires { (in_end start.sheet.now instance ≤ length start.sheet.now) × (ar_next start.sheet.now arc ≤ length start.sheet.now) }
-    ensures { result ≡ device_hit start.entry.sheet.now text.now start.entry.plan.slash entry instance arc }
+pub fn device_hit(
+    start: &[u8],
+    text: &[u8],
+    slash: bool,
+    entry: Entry,
+    instance: usize,
+    arc: usize,
+) -> bool
+    requires { (in_end start.now instance ≤ length start.now) × (ar_next start.now arc ≤ length start.now) }
+    ensures { result ≡ device_hit start.now text.now slash entry instance arc }
 {
     let arc = Arc {
-        sheet: start.sheet,
+        sheet: start,
         place: arc,
     };
     if arc.kind() != IOPATH {
@@ -69,7 +76,7 @@ pub fn device_hit(start: Start, text: &[u8], entry: Entry, instance: usize, arc:
     }
     let end = arc.second_end();
     let path = Instance {
-        sheet: start.sheet,
+        sheet: start,
         place: instance,
     }
     .path();
@@ -77,23 +84,29 @@ pub fn device_hit(start: Start, text: &[u8], entry: Entry, instance: usize, arc:
         return names::one_below(path, end);
     }
     let port = names::part_of(text, entry.from1, entry.to1);
-    names::cmp_full(end, path, port, start.plan.slash) == SAME
+    names::cmp_full(end, path, port, slash) == SAME
 }
 
 // What DEVICE meets in the instance at a place: 14 if it means no arc there, else the least of 15 and 16.
-pub fn device_refusal(start: Start, change: Change, out: &[u8], instance: usize) -> Option<u8>
-    requires { InReady start.sheet.now start.plan.arcs start.plan.first out.now instance }
-    ensures { result ≡ refused (device_refusal start.entry.sheet.now change.entry.text.now start.entry.plan.slash start.entry.plan.instances start.entry.plan.arcs
-        start.entry.plan.first change.entry.head change.entry.rows out.now instance) }
+pub fn device_refusal(
+    start: &[u8],
+    plan: Plan,
+    change: Change,
+    out: &[u8],
+    instance: usize,
+) -> Option<u8>
+    requires { InReady start.now plan.arcs plan.first out.now instance }
+    ensures { result ≡ refused (device_refusal start.now change.entry.text.now plan.slash plan.instances plan.arcs plan.first
+        change.entry.head change.entry.rows out.now instance) }
 {
     // An arc may be meant and refuse nothing, so this is not told by `least`.
     let mut some = false;
     let mut least = None;
-    let mut here = start.plan.first;
-    for k in 0..start.plan.arcs {
-        if device_hit(start, change.text, change.head, instance, here) {
+    let mut here = plan.first;
+    for k in 0..plan.arcs {
+        if device_hit(start, change.text, plan.slash, change.head, instance, here) {
             let values = Arc {
-                sheet: start.sheet,
+                sheet: start,
                 place: here,
             }
             .values();
@@ -104,7 +117,7 @@ pub fn device_refusal(start: Start, change: Change, out: &[u8], instance: usize)
             some = true;
         }
         here = Arc {
-            sheet: start.sheet,
+            sheet: start,
             place: here,
         }
         .next();
@@ -113,23 +126,23 @@ pub fn device_refusal(start: Start, change: Change, out: &[u8], instance: usize)
 }
 
 // Writes what DEVICE makes of the arcs that it means there.
-pub fn device_write(start: Start, change: Change, out: &mut [u8], instance: usize)
-    requires { InReady start.sheet.now start.plan.arcs start.plan.first out.old instance }
-    ensures { out.new ≡ device_written start.entry.sheet.now change.entry.text.now start.entry.plan.slash start.entry.plan.instances start.entry.plan.arcs
-        start.entry.plan.first change.entry.head change.entry.rows out.old instance }
+pub fn device_write(start: &[u8], plan: Plan, change: Change, out: &mut [u8], instance: usize)
+    requires { InReady start.now plan.arcs plan.first out.old instance }
+    ensures { out.new ≡ device_written start.now change.entry.text.now plan.slash plan.instances plan.arcs plan.first
+        change.entry.head change.entry.rows out.old instance }
 {
-    let mut here = start.plan.first;
-    for k in 0..start.plan.arcs {
-        if device_hit(start, change.text, change.head, instance, here) {
+    let mut here = plan.first;
+    for k in 0..plan.arcs {
+        if device_hit(start, change.text, plan.slash, change.head, instance, here) {
             let values = Arc {
-                sheet: start.sheet,
+                sheet: start,
                 place: here,
             }
             .values();
             amounts::write_arc(out, values, change.rows, change.head.group == ADDS);
         }
         here = Arc {
-            sheet: start.sheet,
+            sheet: start,
             place: here,
         }
         .next();

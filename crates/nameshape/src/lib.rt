@@ -94,8 +94,11 @@ fn bracket_next(state: u8, byte: u8) -> u8
 fn name_next(slash: bool, state: u8, byte: u8) -> u8
     ensures { result ≡ name_next slash state byte }
 {
+    // Most bytes are met here, so this is asked first.
+    if state <= BODY {
+        return body_next(slash, state, byte);
+    }
     match state {
-        START | BODY => body_next(slash, state, byte),
         ESCAPE if is_escapable(byte) => BODY,
         BRACKET | INDEX | COLON | SECOND => bracket_next(state, byte),
         INDEXED if byte == divider_of(slash) => START,

@@ -105,11 +105,16 @@ pub fn ends_word(text: &[u8], place: usize) -> bool
 fn blank_stop(mode: u8, class: u8, behind: u8) -> bool
     ensures { result ≡ blank_stop mode class behind }
 {
-    match (mode, class) {
-        (_, 0) => true,
-        (0, 1) => false,
-        (0, 8) => !starts_comment(behind),
-        _ => mode == 0,
+    if class == 0 {
+        return true;
+    }
+    if mode != 0 {
+        return false;
+    }
+    match class {
+        1 => false,
+        8 => !starts_comment(behind),
+        _ => true,
     }
 }
 
@@ -118,11 +123,20 @@ fn mode_next(mode: u8, class: u8, byte: u8, behind: u8) -> u8
     ensures { result ≡ mode_next mode class byte behind }
 {
     match mode {
-        0 if class == 8 && behind == b'/' => 1,
-        0 if class == 8 => 2,
-        1 if byte != b'\n' => 1,
-        3 if byte == b'*' && behind == b'/' => 4,
-        2 | 3 => 3,
+        0 => {
+            if class != 8 {
+                return 0;
+            }
+            if behind == b'/' { 1 } else { 2 }
+        }
+        1 => { if byte == b'\n' { 0 } else { 1 } }
+        2 => 3,
+        3 => {
+            if byte != b'*' {
+                return 3;
+            }
+            if behind == b'/' { 4 } else { 3 }
+        }
         _ => 0,
     }
 }
@@ -155,7 +169,8 @@ fn comment_at(text: &[u8], i: usize) -> bool
     peek(text, i) == b'/' && starts_comment(peek(text, i + 1))
 }
 
-// Past white space and comments from a place on, byte by byte.
+// Past white space and comments from a place on, byte by byte. Not inlined: the loop keeps its numbers in registers then.
+#[inline(never)]
 fn skip_comments(text: &[u8], from: usize) -> Skipped
     requires { from ≤ length text.now }
     ensures { SkippedTo text.now from result }

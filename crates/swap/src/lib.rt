@@ -91,12 +91,12 @@ pub fn swap_cell<'a>(
         cells,
         entries,
         leaver: meaning::whom_of(start, file, plan, &places, out),
-        leavertype: names::part_of(file, out.typefrom, out.typeto),
+        leavertype: names::name_of(file, incoming, false, out.typefrom, out.typeto),
         incoming,
         cells2,
         entries2,
         comer: meaning::whom_of(start, incoming, plan, &places, into),
-        comertype: names::part_of(incoming, into.typefrom, into.typeto),
+        comertype: names::name_of(file, incoming, true, into.typefrom, into.typeto),
     };
     answer_of(swapseats::swap_seated(swapping, own, current))
 }

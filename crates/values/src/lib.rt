@@ -301,7 +301,9 @@ pub fn open_value(text: &[u8], from: usize, signed: bool, unit: u8) -> Result<Re
     read_value(text, inside, signed, unit)
 }
 
-// One to six signed values, up to the closing bracket of their entry, behind the first one's opening bracket.
+// One to six signed values, up to the closing bracket of their entry, behind the first one's opening bracket. Inlined, as is open_values: a call would copy
+// the list on its way into the entry.
+#[inline(always)]
 pub fn read_values(text: &[u8], from: usize, unit: u8) -> Result<Values, Refusal>
     requires { from ≤ length text.now }
     ensures { ReadsValues text.now from unit (list_end result) (list_of result) }
@@ -335,6 +337,7 @@ pub fn read_values(text: &[u8], from: usize, unit: u8) -> Result<Values, Refusal
 }
 
 // One to six signed values, with the first one's opening bracket.
+#[inline(always)]
 pub fn open_values(text: &[u8], from: usize, unit: u8) -> Result<Values, Refusal>
     requires { from ≤ length text.now }
     ensures { OpensValues text.now from unit (list_end result) (list_of result) }

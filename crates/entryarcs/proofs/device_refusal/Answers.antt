@@ -16,30 +16,30 @@ loop-k-init c = (refl, refl, refl)
 pub device_hit-requires : goal.device_hit-requires
 device_hit-requires c = (
   c.requires.there,
-  arc-whole c.args.start.sheet.now c.loop-k.k c.args.start.plan.first c.loop-k.here c.args.start.plan.arcs c.requires.arcs (omega arith) c.loop-k.invariant.0,
+  arc-whole c.args.start.now c.loop-k.k c.args.plan.first c.loop-k.here c.args.plan.arcs c.requires.arcs (omega arith) c.loop-k.invariant.0,
 )
 
 pub invariant_of-values : goal.invariant_of-values
 invariant_of-values c =
-    record { whole = (arc-whole c.args.start.sheet.now c.loop-k.k c.args.start.plan.first c.loop-k.here c.args.start.plan.arcs c.requires.arcs (omega arith) c.loop-k.invariant.0) }
+    record { whole = (arc-whole c.args.start.now c.loop-k.k c.args.plan.first c.loop-k.here c.args.plan.arcs c.requires.arcs (omega arith) c.loop-k.invariant.0) }
 
 pub arc_refusal-requires : goal.arc_refusal-requires
 arc_refusal-requires c =
-    let whole = arc-whole c.args.start.sheet.now c.loop-k.k c.args.start.plan.first c.loop-k.here c.args.start.plan.arcs c.requires.arcs (omega arith)
+    let whole = arc-whole c.args.start.now c.loop-k.k c.args.plan.first c.loop-k.here c.args.plan.arcs c.requires.arcs (omega arith)
     c.loop-k.invariant.0 in
     rw (c.values-values.ensures, c.requires.long) whole
 
 pub invariant_of-next : goal.invariant_of-next
 invariant_of-next c =
-    record { whole = (arc-whole c.args.start.sheet.now c.loop-k.k c.args.start.plan.first c.loop-k.here c.args.start.plan.arcs c.requires.arcs (omega arith) c.loop-k.invariant.0) }
+    record { whole = (arc-whole c.args.start.now c.loop-k.k c.args.plan.first c.loop-k.here c.args.plan.arcs c.requires.arcs (omega arith) c.loop-k.invariant.0) }
 
 pub loop-k-preserved : goal.loop-k-preserved
 loop-k-preserved c =
-    let test = hits c.args.start.sheet.now c.args.change.text.now c.args.start.plan.slash c.args.start.plan.first c.args.change.head c.args.instance in
-    let refusal = refuses c.args.start.sheet.now c.args.out.now c.args.start.plan.first c.args.change.head c.args.change.rows in
-    let hit = hit-is c.args.start.sheet.now c.args.change.text.now c.args.start.plan.slash c.args.start.plan.first c.args.change.head c.args.instance c.loop-k.k c.loop-k.here _ c.loop-k.invariant.0
+    let test = hits c.args.start.now c.args.change.text.now c.args.plan.slash c.args.plan.first c.args.change.head c.args.instance in
+    let refusal = refuses c.args.start.now c.args.out.now c.args.plan.first c.args.change.head c.args.change.rows in
+    let hit = hit-is c.args.start.now c.args.change.text.now c.args.plan.slash c.args.plan.first c.args.change.head c.args.instance c.loop-k.k c.loop-k.here _ c.loop-k.invariant.0
     c.device_hit.ensures in
-    let next = arc-more c.args.start.sheet.now c.loop-k.k c.args.start.plan.first c.loop-k.here _ c.loop-k.invariant.0 c.next-here.ensures in
+    let next = arc-more c.args.start.now c.loop-k.k c.args.plan.first c.loop-k.here _ c.loop-k.invariant.0 c.next-here.ensures in
     elim c.if-device_hit.branch [
       | then-device_hit w ↦ (
         next,
@@ -58,11 +58,11 @@ loop-k-preserved c =
 pub returns-then-some : goal.returns-then-some
 unfolding device_refusal
 returns-then-some c =
-    let e : c.loop-k.k ≡ c.args.start.plan.arcs = omega arith in
+    let e : c.loop-k.k ≡ c.args.plan.arcs = omega arith in
     rw (← e, ← c.loop-k.invariant.1, c.if-some.true) c.loop-k.invariant.2
 
 pub returns-else-some : goal.returns-else-some
 unfolding device_refusal refused
 returns-else-some c =
-    let e : c.loop-k.k ≡ c.args.start.plan.arcs = omega arith in
+    let e : c.loop-k.k ≡ c.args.plan.arcs = omega arith in
     rw (← e, ← c.loop-k.invariant.1, c.if-some.false)

@@ -8,7 +8,7 @@ use Rattle.entryarcs.proofs.device_refusal.Given as goal
 
 abbrev pub invariant-loop-k : goal.invariant-loop-k
 invariant-loop-k l =
-    (l.here ≡ place l.start.sheet.now l.k l.start.plan.first)
-    × (l.some ≡ some_of (hits l.start.sheet.now l.change.text.now l.start.plan.slash l.start.plan.first l.change.head l.instance) l.k)
-    × (l.least ≡ refused (least_of (hits l.start.sheet.now l.change.text.now l.start.plan.slash l.start.plan.first l.change.head l.instance)
-    (refuses l.start.sheet.now l.out l.start.plan.first l.change.head l.change.rows) l.k))
+    (l.here ≡ place l.start l.k l.plan.first)
+    × (l.some ≡ some_of (hits l.start l.change.text.now l.plan.slash l.plan.first l.change.head l.instance) l.k)
+    × (l.least ≡ refused (least_of (hits l.start l.change.text.now l.plan.slash l.plan.first l.change.head l.instance)
+    (refuses l.start l.out l.plan.first l.change.head l.change.rows) l.k))

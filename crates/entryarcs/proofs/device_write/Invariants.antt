@@ -7,7 +7,7 @@ use Rattle.entryarcs.proofs.device_write.Given as goal
 
 abbrev pub invariant-loop-k : goal.invariant-loop-k
 invariant-loop-k l =
-    (l.here ≡ place l.start.sheet.now l.k l.start.plan.first)
-    × (l.out ≡ written_of (hits l.start.sheet.now l.change.text.now l.start.plan.slash l.start.plan.first l.change.head l.instance)
-    (writes l.start.sheet.now l.start.plan.first l.change.head l.change.rows) l.initial.out l.k)
+    (l.here ≡ place l.start l.k l.plan.first)
+    × (l.out ≡ written_of (hits l.start l.change.text.now l.plan.slash l.plan.first l.change.head l.instance)
+    (writes l.start l.plan.first l.change.head l.change.rows) l.initial.out l.k)
     × (length l.out ≡ length l.initial.out)

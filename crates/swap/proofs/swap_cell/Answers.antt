@@ -2,6 +2,7 @@
 use borrow.Author.Rules.{rules}
 use Rattle.meant.specs.Find.{sheet_good, arcs_ready, instances_ready}
 use Rattle.ownfaults.specs.OwnLaws.{own_least}
+use Rattle.names.specs.Name.{name_of_it}
 use Rattle.swap.proofs.SwapLaws.{MoversAre, movers, swap_answered}
 use Rattle.swap.proofs.swap_cell.Goals as goal
 use native.Mathlib.Omega.{arith}
@@ -48,6 +49,7 @@ swap_seated-requires c =
     (record { ready = c.requires.1; search = rw c.mark_instances.ensures (instances_ready c.args.start.now c.args.plan.instances c.args.plan.arcs c.args.plan.first _ (sheet_good c.args.start.now c.args.plan.instances c.args.plan.arcs c.args.plan.first c.requires.0) (search rules)); arcs = rw c.mark_arcs.ensures (arcs_ready c.args.start.now c.args.plan.instances c.args.plan.arcs c.args.plan.first _ (sheet_good c.args.start.now c.args.plan.instances c.args.plan.arcs c.args.plan.first c.requires.0) (search rules)); leaver_in = c.whom_of.ensures.1; comer_in = c.whom_of-2.ensures.1 }, c.requires.2)
 
 pub returns : goal.returns
+unfolding name_of_it
 returns c =
-    let move : MoversAre c.args.start.now c.args.plan.instances c.args.plan.arcs c.args.plan.first c.args.file.now c.args.incoming.now c.args.plan.slash c.args.cells.now c.args.entries.now c.args.cells2.now c.args.entries2.now c.args.swap c.whom_of.result c.part_of.result.now c.whom_of-2.result c.part_of-2.result.now = rw (c.whom_of.ensures.0, c.part_of.ensures, c.whom_of-2.ensures.0, c.part_of-2.ensures, c.cell_at-out.ensures, c.cell_at-into.ensures) (movers c.args.start.now c.args.plan.instances c.args.plan.arcs c.args.plan.first c.args.file.now c.args.incoming.now c.args.plan.slash c.args.cells.now c.args.entries.now c.args.cells2.now c.args.entries2.now c.args.swap) in
-    rw c.answer_of.ensures (swap_answered c.args.start.now c.args.plan.instances c.args.plan.arcs c.args.plan.first c.args.file.now c.args.incoming.now c.args.plan.slash c.args.cells.now c.args.entries.now c.args.cells2.now c.args.entries2.now c.args.swap c.whom_of.result c.part_of.result.now c.whom_of-2.result c.part_of-2.result.now c.own_fault-own.result move (λ y h g. own_least c.args.start.now c.args.plan.instances c.args.plan.arcs c.args.plan.first c.args.file.now c.args.incoming.now c.args.plan.slash c.args.swap.before c.own_fault-own.result c.requires.1.before c.own_fault-own.ensures y h g) c.args.current.now c.swap_seated.result _ c.swap_seated.ensures)
+    let move : MoversAre c.args.start.now c.args.plan.instances c.args.plan.arcs c.args.plan.first c.args.file.now c.args.incoming.now c.args.plan.slash c.args.cells.now c.args.entries.now c.args.cells2.now c.args.entries2.now c.args.swap c.whom_of.result c.name_of.result.now c.whom_of-2.result c.name_of-2.result.now = rw (c.whom_of.ensures.0, c.name_of.ensures, c.whom_of-2.ensures.0, c.name_of-2.ensures, c.cell_at-out.ensures, c.cell_at-into.ensures) (movers c.args.start.now c.args.plan.instances c.args.plan.arcs c.args.plan.first c.args.file.now c.args.incoming.now c.args.plan.slash c.args.cells.now c.args.entries.now c.args.cells2.now c.args.entries2.now c.args.swap) in
+    rw c.answer_of.ensures (swap_answered c.args.start.now c.args.plan.instances c.args.plan.arcs c.args.plan.first c.args.file.now c.args.incoming.now c.args.plan.slash c.args.cells.now c.args.entries.now c.args.cells2.now c.args.entries2.now c.args.swap c.whom_of.result c.name_of.result.now c.whom_of-2.result c.name_of-2.result.now c.own_fault-own.result move (λ y h g. own_least c.args.start.now c.args.plan.instances c.args.plan.arcs c.args.plan.first c.args.file.now c.args.incoming.now c.args.plan.slash c.args.swap.before c.own_fault-own.result c.requires.1.before c.own_fault-own.ensures y h g) c.args.current.now c.swap_seated.result _ c.swap_seated.ensures)
