@@ -25,9 +25,6 @@ const DEVICE: u8 = 4;
 // INCREMENT's letter.
 const ADDS: u8 = b'I';
 
-// What a comparison says of the same.
-const SAME: u8 = 1;
-
 const LACKING: u8 = 14;
 
 // What a check found on the starting sheet, and the text's divider: how many instances, how many arcs and where the first one stands.
@@ -84,7 +81,7 @@ pub fn device_hit(
         return names::one_below(path, end);
     }
     let port = names::part_of(text, entry.from1, entry.to1);
-    names::cmp_full(end, path, port, slash) == SAME
+    names::same_full(end, path, port, slash)
 }
 
 // What DEVICE meets in the instance at a place: 14 if it means no arc there, else the least of 15 and 16.

@@ -58,7 +58,7 @@ fn meant_on(text: &[u8], slash: bool, entry: Entry, path: &[u8], arc: Arc) -> bo
         if entry.to1 == 0 {
             return names::one_below(path, end);
         }
-        return names::cmp_full(end, path, name, slash) == SAME;
+        return names::same_full(end, path, name, slash);
     }
     let key = ArcKey {
         kind: entry.kind,

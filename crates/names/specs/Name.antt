@@ -1,6 +1,7 @@
 -- What a name is: its canonical form, a full name, the one equality of names, the last component; and where a name's bytes stand.
 -- Assumes nothing.
 use Rattle.std.specs.Prelude.{ℕ, suc, ◌+◌, ◌-◌, ◌≤◌, ◌<◌, ◌≡◌, refl, Bool, true, false, not, List, [], ◌∷◌, ◌++◌, ltb, leb, eqb, length, get_or, take, drop}
+use Rattle.std.specs.Prelude.{Option, Some, None}
 use Rattle.std.proofs.Common.{sym, ap, add-one, arith, eqb-true, drop_of_length-le, drop-cons}
 use Rattle.classes.specs.Choice.{pick, and}
 use Rattle.nameshape.specs.Shape.{divider, escapes}
@@ -22,6 +23,11 @@ canon slash x = canon_from slash false x
 unfoldable pub full : List ℕ → List ℕ → List ℕ
 full [] name = name
 full (c ∷ r) name = (c ∷ r) ++ 46 ∷ name
+
+-- where a text goes on behind a path and its `.`; behind the empty path at once, and nowhere if it does not begin so
+unfoldable pub behind : List ℕ → List ℕ → Option ℕ
+behind x [] = Some 0
+behind x (c ∷ r) = pick (eqb (front x ((c ∷ r) ++ 46 ∷ [])) 1) (Some (length (c ∷ r) + 1)) None
 
 -- 'Names are compared as written, after the divider is turned into `.`': THE equality of names, on canonical forms
 unfoldable pub same_name : List ℕ → List ℕ → Bool

@@ -88,6 +88,15 @@ cmp-front [] (y ∷ ys) z = refl
 cmp-front (x ∷ xs) (y ∷ ys) z =
     chosen (ltb x y) (ltb y x) (cmp xs (ys ++ z)) (front xs ys) (cmp (drop (length ys) xs) z) (cmp-front xs ys z)
 
+-- and so for `front`
+pub front-joined : (x y z : List ℕ) → front x (y ++ z) ≡ and_then (front x y) (front (drop (length y) x) z)
+unfolding front
+front-joined [] [] z = refl
+front-joined (x ∷ xs) [] z = refl
+front-joined [] (y ∷ ys) z = refl
+front-joined (x ∷ xs) (y ∷ ys) z =
+    chosen (ltb x y) (ltb y x) (front xs (ys ++ z)) (front xs ys) (front (drop (length ys) xs) z) (front-joined xs ys z)
+
 -- with y, and then by length
 pub cmp-whole : (x y : List ℕ) → cmp x y ≡ and_then (front x y) (pick (ltb (length y) (length x)) 2 1)
 unfolding cmp front

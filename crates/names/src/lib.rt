@@ -4,7 +4,7 @@
 ghost use Rattle.std.specs.Prelude.{◌≡◌, false, ◌≤◌, length};
 ghost use Rattle.std.specs.Ordering.{ordering_index};
 ghost use Rattle.names.specs.Order.{cmp_num, cmp, front, same_text};
-ghost use Rattle.names.specs.Name.{turned, canon, full, same_name, start_behind, last_start, one_below, part_of, name_of_it};
+ghost use Rattle.names.specs.Name.{turned, canon, full, behind, same_name, start_behind, last_start, one_below, part_of, name_of_it};
 
 use std::cmp::Ordering;
 
@@ -14,6 +14,9 @@ const BEFORE: u8 = 0;
 const SAME: u8 = 1;
 
 const AFTER: u8 = 2;
+
+// How many bytes `cmp_front` compares by itself. The library's comparison takes longer where names differ early or are short, less on long ones.
+const EARLY: usize = 8;
 
 fn number_of(order: Ordering) -> u8
     ensures { result ≡ ordering_index order }
@@ -54,7 +57,16 @@ fn cmp_front(x: &[u8], y: &[u8]) -> u8
     ensures { result ≡ front x.now y.now }
 {
     let n = x.len().min(y.len());
-    number_of(x[..n].cmp(y))
+    let early = n.min(EARLY);
+    for i in 0..early {
+        if x[i] != y[i] {
+            return cmp_num(x[i], y[i]);
+        }
+    }
+    if n == early {
+        return if n < y.len() { BEFORE } else { SAME };
+    }
+    number_of(x[early..n].cmp(&y[early..]))
 }
 
 #[tactic(auto, unfolding(crate::specs::Name::turned))]
@@ -132,6 +144,33 @@ pub fn cmp_full(x: &[u8], path: &[u8], name: &[u8], slash: bool) -> u8
     cmp_written(&x[behind..], name, slash)
 }
 
+// Where x goes on behind the path and its `.`, if it begins so; behind the empty path at once.
+fn behind(x: &[u8], path: &[u8]) -> Option<usize>
+    ensures { result ≡ behind x.now path.now }
+{
+    let n = path.len();
+    if n == 0 {
+        return Some(0);
+    }
+    // Here `==` takes less than `cmp`: texts that differ in their first four bytes are told apart in line.
+    if n < x.len() && x[n] == b'.' && &x[..n] == path {
+        return Some(n + 1);
+    }
+    None
+}
+
+// Whether the canonical name x is the full name of the written one in the instance with this path (canonical; empty at the top level). `cmp_full` says
+// as much and the order besides, which takes longer to tell.
+#[tactic(auto, using(crate::proofs::Paths::behind_le))]
+pub fn same_full(x: &[u8], path: &[u8], name: &[u8], slash: bool) -> bool
+    ensures { result ≡ same_name x.now (full path.now (canon slash name.now)) }
+{
+    let Some(start) = behind(x, path) else {
+        return false;
+    };
+    cmp_written(&x[start..], name, slash) == SAME
+}
+
 // Whether two canonical names are the same name.
 #[tactic(auto, unfolding(crate::specs::Name::same_name))]
 pub fn same_name(x: &[u8], y: &[u8]) -> bool
@@ -170,8 +209,10 @@ pub fn last_component(name: &[u8]) -> usize
 pub fn one_below(path: &[u8], name: &[u8]) -> bool
     ensures { result ≡ one_below path.now name.now }
 {
-    let start = last_component(name);
-    cmp_full(name, path, &name[start..], false) == SAME
+    let Some(start) = behind(name, path) else {
+        return false;
+    };
+    last_component(name) == start
 }
 
 // The bytes of the text from start up to end; none where they do not lie in it.

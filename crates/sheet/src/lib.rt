@@ -191,7 +191,8 @@ fn second_vs(arc: Arc, key: ArcKey) -> u8
     names::cmp_full(end, key.path, key.name2, key.slash)
 }
 
-// The key of an arc against the wanted one.
+// The key of an arc against the wanted one. Inlined, as is `against` of an `ArcKey`: a call that takes a key copies it.
+#[inline(always)]
 pub fn key_vs(arc: Arc, key: ArcKey) -> u8
     ensures { result ≡ cmp_key (key_at arc.entry.sheet.now arc.entry.place) (wanted_by key.entry) }
 {
@@ -240,6 +241,7 @@ impl Record for ArcKey<'_> {
         Arc { sheet, place }.next()
     }
 
+    #[inline(always)]
     fn against(self, sheet: &[u8], place: usize) -> u8 {
         key_vs(Arc { sheet, place }, self)
     }

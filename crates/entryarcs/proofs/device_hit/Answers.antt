@@ -1,7 +1,5 @@
 -- `entryarcs::device_hit` meets its contract.
 use borrow.Author.Tests.{eq-eqb, ne_eqb}
-use Rattle.names.specs.Order.{same_text}
-use Rattle.names.specs.Name.{same_name}
 use Rattle.applying.specs.Bytes.{device_hit}
 use Rattle.entryarcs.proofs.device_hit.Goals as goal
 
@@ -16,7 +14,7 @@ returns-then-entry-eq0 c =
     rw (← c.kind.ensures, eq-eqb _ 1 c.if-kind-ne-IOPATH.false, eq-eqb _ 0 c.if-entry-eq0.true, ← c.second_end-end.ensures, ← c.path-path.ensures) c.one_below.ensures
 
 pub returns : goal.returns
-unfolding device_hit same_name same_text
+unfolding device_hit
 returns c =
     rw (← c.kind.ensures, eq-eqb _ 1 c.if-kind-ne-IOPATH.false, ne_eqb _ 0 c.if-entry-eq0.false)
-    (rw (← c.second_end-end.ensures, ← c.path-path.ensures, ← c.part_of-port.ensures, ← c.cmp_full.ensures))
+    (rw (← c.second_end-end.ensures, ← c.path-path.ensures, ← c.part_of-port.ensures) c.same_full.ensures)
